@@ -1,0 +1,2 @@
+-- What must be believed of the sorts of number.
+pub mod Words
