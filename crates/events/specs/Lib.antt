@@ -5,4 +5,6 @@ pub mod Clashes
 pub mod Words
 pub mod Search
 pub mod Verdicts
+pub mod Positions
+pub mod Reports
 pub mod Cases

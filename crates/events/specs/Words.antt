@@ -1,8 +1,8 @@
 -- The words of the five lent tables after a history, as document 01 words them.
-use mathlib.Core.Bool.{Bool, cond, not, _&&_}
+use mathlib.Core.Bool.{Bool, cond, not, _&&_, _||_}
 use mathlib.Core.List.{List, [], _∷_}
 use Prim.Native.Nat.{ℕ, suc}
-use lib.Dec.{eqb, ltb}
+use lib.Dec.{eqb, ltb, leb}
 use Rattle.sorts.specs.Words.{joined}
 use Rattle.events.specs.Acts.{History, reads, writes, crosses}
 use Rattle.events.specs.Stretches.{stretchOf, hasWritten, wroteLast}
@@ -44,3 +44,8 @@ logWord (reads u g ∷ h) f w =
     cond (eqb g f && (eqb u w && not (wroteLast h w f))) (once (logWord h f w) (suc (versionWord h f))) (logWord h f w)
 logWord (writes u g ∷ h) f w = logWord h f w
 logWord (crosses u ∷ h) f w = cond (eqb u w) 0 (logWord h f w)
+
+-- What the late finder sees of a logged field by these words alone: the version has risen by at least two since the log word was
+-- entered, or by at least one with another worker than w as last writer.
+unfoldable pub staleByWords : ℕ → ℕ → ℕ → ℕ → Bool
+staleByWords log version last w = ltb 0 log && (ltb log version || (leb log version && not (eqb last w)))

@@ -1,0 +1,146 @@
+-- The demands, said of the definitions alone: no table and no code stands in these statements. Open this file first.
+use mathlib.Core.Path.{_≡_, sym, _∙_}
+use mathlib.Core.List.{List, [], _∷_}
+use Prim.Native.Nat.{ℕ, _<_, _≤_}
+use lib.Dec.{T}
+use lib.ListN.{length, getD}
+use Rattle.events.specs.declared.Event.{Event}
+use Rattle.events.specs.declared.Event.the-variants.{Read, Write}
+use Rattle.events.specs.Acts.{Act, History, Recording, Within, recordingOf, before, workerOf, writes, crosses}
+use Rattle.events.specs.Stretches.{hasRead, hasWritten}
+use Rattle.events.specs.Positions.{OpenSince}
+use Rattle.events.specs.Clashes.{Clash, OnWritten, Some, SomeAt, FirstClash}
+use Rattle.events.specs.Verdicts.{Verdict, accepted, reported, earlyVerdict, lateVerdict}
+use Rattle.events.specs.Reports.{EventNames, Reports, ReportsSome, ReportsBy, Exactly}
+use Rattle.events.proofs.Histories.{Sound, recording-sound, recording-length}
+use Rattle.events.proofs.Stretches.{own-clash, crossing-calm}
+use Rattle.events.proofs.Positions.{positions, read-follows, written-follows}
+use Rattle.events.proofs.Walks.{not-both}
+use Rattle.events.proofs.Early.{Finds, accepts, finds, found-early, says-first, one-first}
+use Rattle.events.proofs.Late.{Crosses, Writes, late-accepts, LateReports, late-reports, stops-at, stops-by}
+
+-- w's open stretch has read (written) f at n exactly if some event before n is w's read (write) of f with no crossing of w from there
+-- up to n.
+pub has-read-at : (es : List Event) (n w f : ℕ)
+    → Exactly (T (hasRead (before [] (recordingOf es) n) w f)) (OpenSince es n w (Read (record { 0 = w }) (record { 0 = f })))
+has-read-at es n w f = positions (read-follows w f) es n
+
+pub has-written-at : (es : List Event) (n w f : ℕ)
+    → Exactly (T (hasWritten (before [] (recordingOf es) n) w f)) (OpenSince es n w (Write (record { 0 = w }) (record { 0 = f })))
+has-written-at es n w f = positions (written-follows w f) es n
+
+-- A worker never clashes with itself: what it did before changes nothing of what it meets.
+pub never-with-itself : (h : History) (a b : Act) → workerOf b ≡ workerOf a → Clash (a ∷ h) b → Clash h b
+never-with-itself = own-clash
+
+-- A crossing never clashes.
+pub no-crossing-clashes : {h : History} {w : ℕ} → Clash h (crosses w) → ⊥
+no-crossing-clashes = crossing-calm
+
+-- a verdict names one event
+one-number : (v : Verdict) (n m : ℕ) → Reports v n → Reports v m → n ≡ m
+one-number v n m a b = let p = a .says in let q = b .says in cc
+
+-- es are a recording's events, with W workers and F fields
+module _ (W F : ℕ) (few : W ≤ 16) (es : List Event) (within : Within W F es) where
+  -- the acts of each event
+  abbrev all : Recording
+  all = recordingOf es
+
+  sound : Sound W F all
+  sound = recording-sound W F es within
+
+  found : Finds W F few all sound (earlyVerdict es)
+  found = found-early W F few all sound
+
+  -- DEMAND 2. Early reports event n exactly if n is the lowest-numbered event that clashes.
+  pub early-reports : (n : ℕ) → Exactly (Reports (earlyVerdict es) n) (FirstClash all n)
+  early-reports n = (λ r. to r found, λ c. from c found)
+    where
+      to : Reports (earlyVerdict es) n → Finds W F few all sound (earlyVerdict es) → FirstClash all n
+      to r (accepts q _) = not-both (earlyVerdict es) n (r .sort) (r .worker) (r .other) (r .field) q (r .says)
+      to r (finds k s w u f q _ c _) =
+          rw (one-number (earlyVerdict es) n k r (record { sort = s; worker = w; other = u; field = f; says = q })) c
+
+      from : FirstClash all n → Finds W F few all sound (earlyVerdict es) → Reports (earlyVerdict es) n
+      from c (accepts _ z) = absurd (z n (c .clashes))
+      from c (finds k s w u f q _ c′ _) =
+          rw (one-first W F few all sound n k c c′) (record { sort = s; worker = w; other = u; field = f; says = q })
+
+  -- It reports n with sort s, worker w, other worker u and field f exactly if n is that event and these are its names.
+  pub early-names : (n s w u f : ℕ)
+      → Exactly (earlyVerdict es ≡ reported n s w u f) (FirstClash all n × EventNames (before [] all n) (getD all n []) s w u f)
+  early-names n s w u f = (λ q. to q found, λ c. says-first W F few all sound n s w u f (c .0) (c .1))
+    where
+      to : earlyVerdict es ≡ reported n s w u f → Finds W F few all sound (earlyVerdict es)
+          → FirstClash all n × EventNames (before [] all n) (getD all n []) s w u f
+      to q (accepts z _) = not-both (earlyVerdict es) n s w u f z q
+      to q (finds k s′ w′ u′ f′ q′ _ c names) =
+          let kn : n ≡ k = cc in
+          let ks : s ≡ s′ = cc in
+          let kw : w ≡ w′ = cc in
+          let ku : u ≡ u′ = cc in
+          let kf : f ≡ f′ = cc in
+          rw (kn, ks, kw, ku, kf) (c, names)
+
+  -- It accepts exactly if no event clashes.
+  pub early-accepts : Exactly (earlyVerdict es ≡ accepted) ((n : ℕ) → SomeAt Clash all n → ⊥)
+  early-accepts = (λ q. to q found, λ z. from z found)
+    where
+      to : earlyVerdict es ≡ accepted → Finds W F few all sound (earlyVerdict es) → (n : ℕ) → SomeAt Clash all n → ⊥
+      to q (accepts _ z) = z
+      to q (finds k s w u f q′ _ _ _) = not-both (earlyVerdict es) k s w u f q q′
+
+      from : ((n : ℕ) → SomeAt Clash all n → ⊥) → Finds W F few all sound (earlyVerdict es) → earlyVerdict es ≡ accepted
+      from z (accepts q _) = q
+      from z (finds k s w u f _ _ c _) = absurd (z k (c .clashes))
+
+  -- DEMAND 3. n is the first event that clashes.
+  module _ (n : ℕ) (first : FirstClash all n) where
+    inside : Finds W F few all sound (earlyVerdict es) → n < length all
+    inside (accepts _ z) = absurd (z n (first .clashes))
+    inside (finds k s w u f _ l c _) = rw (one-first W F few all sound n k first c) l
+
+    late-run : LateReports W F few all sound n first (inside found) (lateVerdict W F es)
+    late-run = late-reports W F few all sound n first (inside found)
+
+    -- Late reports never before n.
+    pub late-not-before : (m : ℕ) → Reports (lateVerdict W F es) m → n ≤ m
+    late-not-before m r = rw (one-number (lateVerdict W F es) m (late-run .number) r (late-run .reports)) (late-run .not-before)
+
+    -- If another worker's open stretch had written the field, it reports at n itself.
+    pub late-at-once : SomeAt OnWritten all n → Reports (lateVerdict W F es) n
+    late-at-once o = rw (stops-at W F few all sound n first (inside found) late-run o) at (late-run .reports)
+
+    -- Otherwise another worker u's open stretch had read a field f that w writes at n: it reports no later than u's next crossing,
+    pub late-by-crossing : (w u f : ℕ) → Some (Writes w f) (getD all n []) → (u ≡ w → ⊥) → T (hasRead (before [] all n) u f)
+        → (m : ℕ) → n < m → Some (Crosses u) (getD all m []) → ReportsBy (lateVerdict W F es) m
+    late-by-crossing w u f wrote ne read m l c = record {
+      event = late-run .number;
+      reports = late-run .reports;
+      in-time = stops-by W F few all sound n first (inside found) late-run w u f wrote ne read m l c;
+    }
+
+    -- or the end if that worker crosses no more.
+    pub late-by-end : ReportsBy (lateVerdict W F es) (length es)
+    late-by-end = record {
+      event = late-run .number;
+      reports = late-run .reports;
+      in-time = rw (← recording-length es) (late-run .by-end);
+    }
+
+  -- Late reports exactly when early does.
+  pub late-reports-too : Exactly (ReportsSome (lateVerdict W F es)) (ReportsSome (earlyVerdict es))
+  late-reports-too = (λ r. to r found, λ r. from r found)
+    where
+      to : ReportsSome (lateVerdict W F es) → Finds W F few all sound (earlyVerdict es) → ReportsSome (earlyVerdict es)
+      to r (accepts _ z) =
+          let b = r .reports in
+          not-both (lateVerdict W F es) (r .event) (b .sort) (b .worker) (b .other) (b .field) (late-accepts W F few all sound z) (b .says)
+      to r (finds k s w u f q _ _ _) = record { event = k; reports = record { sort = s; worker = w; other = u; field = f; says = q } }
+
+      from : ReportsSome (earlyVerdict es) → Finds W F few all sound (earlyVerdict es) → ReportsSome (lateVerdict W F es)
+      from r (accepts q _) =
+          let b = r .reports in
+          not-both (earlyVerdict es) (r .event) (b .sort) (b .worker) (b .other) (b .field) q (b .says)
+      from r (finds k s w u f _ _ c _) = let b = late-by-end k c in record { event = b .event; reports = b .reports }

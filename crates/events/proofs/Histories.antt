@@ -1,0 +1,102 @@
+-- Laws of histories: entering an event's acts, the history before an event, and what holds of every act of a recording.
+use mathlib.Core.Path.{_≡_, refl, _∙_}
+use mathlib.Core.List.{List, [], _∷_}
+use Prim.Native.Nat.{ℕ, zero, suc, _+_, _<_}
+use native.Mathlib.Omega.{arith}
+use lib.ListN.{length, getD}
+use Rattle.events.specs.declared.Event.{Event}
+use Rattle.events.specs.declared.Event.the-variants.{Read, Write, Crossing}
+use Rattle.events.specs.Acts.{Act, Recording, History, actsOf, recordingOf, entered, before, workerOf, Within, EventWithin, reads, writes, crosses}
+use Rattle.events.specs.Clashes.{Some, SomeAt, here, later}
+
+-- with W workers and F fields
+abbrev pub ActWithin : ℕ → ℕ → Act → Type 0
+ActWithin W F (reads w f) = (w < W) × (f < F)
+ActWithin W F (writes w f) = (w < W) × (f < F)
+ActWithin W F (crosses w) = w < W
+
+abbrev pub ActsWithin : ℕ → ℕ → List Act → Type 0
+ActsWithin W F [] = Unit {0}
+ActsWithin W F (a ∷ more) = ActWithin W F a × ActsWithin W F more
+
+-- all acts are w's
+abbrev pub ActsOf : ℕ → List Act → Type 0
+ActsOf w [] = Unit {0}
+ActsOf w (a ∷ more) = (workerOf a ≡ w) × ActsOf w more
+
+-- an event's acts are of one worker, and within the counts
+pub record EventActs (W F : ℕ) (e : List Act) : Type 0 where
+  pub worker : ℕ
+  pub own : ActsOf worker e
+  pub inside : ActsWithin W F e
+
+abbrev pub Sound : ℕ → ℕ → Recording → Type 0
+Sound W F [] = Unit {0}
+Sound W F (e ∷ es) = EventActs W F e × Sound W F es
+
+pub acts-sound : (W F : ℕ) (e : Event) → EventWithin W F e → EventActs W F (actsOf e)
+acts-sound W F (Read w f) i = record { worker = w .0; own = (refl, tt); inside = (i, tt) }
+acts-sound W F (Write w f) i = record { worker = w .0; own = (refl, tt); inside = (i, tt) }
+acts-sound W F (Crossing w) i = record { worker = w .0; own = (refl, tt); inside = (i, tt) }
+
+pub recording-sound : (W F : ℕ) (es : List Event) → Within W F es → Sound W F (recordingOf es)
+unfolding recordingOf
+recording-sound W F [] i = tt
+recording-sound W F (e ∷ es) i = (acts-sound W F e (i .0), recording-sound W F es (i .1))
+
+pub recording-length : (es : List Event) → length (recordingOf es) ≡ length es
+unfolding recordingOf
+recording-length [] = refl
+recording-length (e ∷ es) = rw (recording-length es)
+
+-- past the end there are no acts
+pub event-sound : (W F : ℕ) (es : Recording) → Sound W F es → (n : ℕ) → EventActs W F (getD es n [])
+event-sound W F [] s n = record { worker = 0; own = tt; inside = tt }
+event-sound W F (e ∷ es) s zero = s .0
+event-sound W F (e ∷ es) s (suc n) = event-sound W F es (s .1) n
+
+pub before-next : (h : History) (es : Recording) (n : ℕ) → before h es (suc n) ≡ entered (before h es n) (getD es n [])
+unfolding before entered
+before-next h [] zero = refl
+before-next h [] (suc n) = refl
+before-next h (e ∷ es) zero = refl
+before-next h (e ∷ es) (suc n) = before-next (entered h e) es n
+
+module _ (W F : ℕ) where
+  pub entered-within : (h : History) (e : List Act) → ActsWithin W F h → ActsWithin W F e → ActsWithin W F (entered h e)
+  unfolding entered
+  entered-within h [] i j = i
+  entered-within h (a ∷ more) i j = entered-within (a ∷ h) more (j .0, i) (j .1)
+
+  pub before-within : (es : Recording) → Sound W F es → (n : ℕ) → ActsWithin W F (before [] es n)
+  unfolding before
+  before-within es s zero = tt
+  before-within es s (suc n) =
+      rw before-next
+      (entered-within (before [] es n) (getD es n []) (before-within es s n) (event-sound W F es s n .inside))
+
+-- no act so far was such
+abbrev pub No : (History → Act → Type 0) → History → Type 0
+No Such [] = Unit {0}
+No Such (a ∷ h) = (Such h a → ⊥) × No Such h
+
+-- What an act meets does not depend on its own worker's acts. So an event's acts that are calm together are calm one after another.
+module _ (Such : History → Act → Type 0) (own : (h : History) (a b : Act) → workerOf b ≡ workerOf a → Such (a ∷ h) b → Such h b) where
+  back : (h : History) (a : Act) (more : List Act) → ActsOf (workerOf a) more → Some (Such (a ∷ h)) more → Some (Such h) more
+  back h a (b ∷ more) o (here s) = here (own h a b (o .0) s)
+  back h a (b ∷ more) o (later s) = later (back h a more (o .1) s)
+
+  pub calm-entered : (w : ℕ) (h : History) (e : List Act) → ActsOf w e → (Some (Such h) e → ⊥) → No Such h → No Such (entered h e)
+  unfolding entered
+  calm-entered w h [] o z c = c
+  calm-entered w h (a ∷ more) o z c =
+      calm-entered w (a ∷ h) more (o .1) (λ s. z (later (back h a more (rw (o .0) (o .1)) s))) (λ s. z (here s), c)
+
+  pub calm-before : (W F : ℕ) (es : Recording) → Sound W F es → (n : ℕ) → ((m : ℕ) → m < n → SomeAt Such es m → ⊥) → No Such (before [] es n)
+  unfolding before
+  calm-before W F es s zero z = tt
+  calm-before W F es s (suc n) z =
+      let e = event-sound W F es s n in
+      rw before-next
+      (calm-entered (e .worker) (before [] es n) (getD es n []) (e .own) (z n (omega arith))
+      (calm-before W F es s n (λ m l. z m (omega arith))))
