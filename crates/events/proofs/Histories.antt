@@ -1,9 +1,9 @@
 -- Laws of histories: entering an event's acts, the history before an event, and what holds of every act of a recording.
-use mathlib.Core.Path.{_≡_, refl, _∙_}
+use mathlib.Core.Path.{_≡_, refl}
 use mathlib.Core.List.{List, [], _∷_}
-use Prim.Native.Nat.{ℕ, zero, suc, _+_, _<_}
+use Prim.Native.Nat.{ℕ, zero, suc, _<_, _≤_}
 use native.Mathlib.Omega.{arith}
-use lib.ListN.{length, getD}
+use lib.ListN.{length, getD, drop}
 use Rattle.events.specs.declared.Event.{Event}
 use Rattle.events.specs.declared.Event.the-variants.{Read, Write, Crossing}
 use Rattle.events.specs.Acts.{Act, Recording, History, actsOf, recordingOf, entered, before, workerOf, Within, EventWithin, reads, writes, crosses}
@@ -48,6 +48,26 @@ pub recording-length : (es : List Event) → length (recordingOf es) ≡ length 
 unfolding recordingOf
 recording-length [] = refl
 recording-length (e ∷ es) = rw (recording-length es)
+
+-- an event has at most one act
+acts-short : (e : Event) → length (actsOf e) ≤ 1
+acts-short (Read w f) = omega arith
+acts-short (Write w f) = omega arith
+acts-short (Crossing w) = omega arith
+
+pub event-short : (es : List Event) (n : ℕ) → length (getD (recordingOf es) n []) ≤ 1
+unfolding recordingOf
+event-short [] n = omega arith
+event-short (e ∷ es) zero = acts-short e
+event-short (e ∷ es) (suc n) = event-short es n
+
+-- the event that stands first of those from n on
+pub event-is : (es rest : List Event) (n : ℕ) (e : Event) → drop n es ≡ e ∷ rest → getD (recordingOf es) n [] ≡ actsOf e
+unfolding recordingOf
+event-is [] rest zero e q = let z : _≡_ {A = ℕ} 0 1 = cc in absurd (omega arith)
+event-is [] rest (suc n) e q = let z : _≡_ {A = ℕ} 0 1 = cc in absurd (omega arith)
+event-is (x ∷ es) rest zero e q = let k : x ≡ e = cc in rw k
+event-is (x ∷ es) rest (suc n) e q = event-is es rest n e q
 
 -- past the end there are no acts
 pub event-sound : (W F : ℕ) (es : Recording) → Sound W F es → (n : ℕ) → EventActs W F (getD es n [])

@@ -2,15 +2,49 @@
 use mathlib.Core.Path.{_≡_, refl, sym, _∙_}
 use mathlib.Core.Bool.{Bool, true, false, not, _&&_, _||_, and-false, or-true}
 use mathlib.Core.List.{List, [], _∷_}
-use Prim.Native.Nat.{ℕ, suc, _+_, _<_, _≤_}
+use Prim.Native.Nat.{ℕ, zero, suc, _+_, _<_, _≤_}
 use native.Mathlib.Omega.{arith}
 use lib.Dec.{eqb, T}
+use lib.ListN.{length, getD}
 use borrow.Author.Tests.{eq-eqb, ne-eqb}
-use Rattle.events.specs.Acts.{Act, History, entered, workerOf, reads, writes, crosses}
+use Rattle.events.specs.declared.Event.{Event}
+use Rattle.events.specs.Acts.{Act, History, recordingOf, entered, before, workerOf, reads, writes, crosses}
 use Rattle.events.specs.Stretches.{stretchOf, hasRead, hasWritten, staleRead}
 use Rattle.events.specs.Clashes.{Clash, write-after-write, write-after-read, read-after-write, OnWritten, write-on-written, read-on-written, Some, here, later}
 use Rattle.events.proofs.Tests.{bool, same, T-of}
-use Rattle.events.proofs.Histories.{ActsWithin, ActsOf, No}
+use Rattle.events.proofs.Histories.{ActsWithin, event-short, before-next, No}
+
+-- each crossing raises a stretch's number by one, from 1 on
+pub stretch-above : (h : History) (w : ℕ) → 0 < stretchOf h w
+unfolding stretchOf
+stretch-above [] w = omega arith
+stretch-above (reads u g ∷ h) w = stretch-above h w
+stretch-above (writes u g ∷ h) w = stretch-above h w
+stretch-above (crosses u ∷ h) w = let l = stretch-above h w in bool (eqb u w) (λ e. rw e (omega arith)) (λ e. rw e l)
+
+stretch-next : (a : Act) (h : History) (w : ℕ) → stretchOf (a ∷ h) w ≤ stretchOf h w + 1
+unfolding stretchOf
+stretch-next (reads u g) h w = omega arith
+stretch-next (writes u g) h w = omega arith
+stretch-next (crosses u) h w = bool (eqb u w) (λ e. rw e (omega arith)) (λ e. rw e (omega arith))
+
+pub stretch-entered : (h : History) (e : List Act) (w : ℕ) → stretchOf (entered h e) w ≤ stretchOf h w + length e
+unfolding entered
+stretch-entered h [] w = omega arith
+stretch-entered h (a ∷ more) w =
+    let x = stretch-entered (a ∷ h) more w in
+    let y = stretch-next a h w in
+    omega arith
+
+-- an event is one act, so a stretch's number is at most 1 plus the events so far
+pub stretch-low : (es : List Event) (n w : ℕ) → stretchOf (before [] (recordingOf es) n) w ≤ n + 1
+unfolding before stretchOf
+stretch-low es zero w = omega arith
+stretch-low es (suc n) w =
+    let x = stretch-low es n w in
+    let y = stretch-entered (before [] (recordingOf es) n) (getD (recordingOf es) n []) w in
+    let z = event-short es n in
+    rw before-next (omega arith)
 
 module _ (a : Act) (h : History) (u f : ℕ) (ne : u ≡ workerOf a → ⊥) where
   differ : eqb (workerOf a) u ≡ false

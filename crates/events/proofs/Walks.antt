@@ -4,9 +4,13 @@ use mathlib.Core.List.{List, [], _∷_}
 use Prim.Native.Nat.{ℕ, zero, suc, _+_, _<_, _≤_}
 use native.Mathlib.Numerals.{add-one}
 use native.Mathlib.Omega.{arith}
-use lib.ListN.{length, getD}
+use lib.ListN.{length, getD, drop}
+use lib.Seq.{drop-cons, drop-length}
 use Rattle.events.specs.Acts.{Act, History, Recording, entered, before}
+use Rattle.events.specs.Clashes.{OnWritten, SomeAt}
 use Rattle.events.specs.Verdicts.{Verdict, accepted, reported, andThen, firstOf, walk}
+use Rattle.events.proofs.Histories.{Sound, event-sound, before-next, No, calm-entered}
+use Rattle.events.proofs.Stretches.{own-on-written}
 
 pub verdict : {P : Type 0} (v : Verdict) → (v ≡ accepted → P) → ((n s w u f : ℕ) → v ≡ reported n s w u f → P) → P
 verdict accepted a b = a refl
@@ -61,3 +65,39 @@ module _ (look : History → ℕ → Act → Verdict) (end : History → ℕ →
       → walk look end h n (e ∷ es) ≡ reported m s w u f
   unfolding walk
   walk-stop h n e es m s w u f q = rw q
+
+  -- A finder's loop before event n: no access so far met another worker's open stretch that had written its field, and walking what is
+  -- left says what walking all says.
+  pub record Progress (es : Recording) (n : ℕ) : Type 0 where
+    pub low : n ≤ length es
+    pub rest : walk look end (before [] es n) n (drop n es) ≡ walk look end [] 0 es
+    pub calm : No OnWritten (before [] es n)
+
+  pub progress-start : (es : Recording) → Progress es 0
+  unfolding before
+  progress-start es = record { low = omega arith; rest = refl; calm = tt }
+
+  module _ (W F : ℕ) (es : Recording) (sound : Sound W F es) (n : ℕ) (so-far : Progress es n) where
+    history : before [] es (n + 1) ≡ entered (before [] es n) (getD es n [])
+    history = rw add-one (before-next [] es n)
+
+    module _ (l : n < length es) where
+      left : walk look end (before [] es n) n (getD es n [] ∷ drop (n + 1) es) ≡ walk look end [] 0 es
+      left = rw add-one (rw (drop-cons es n [] l) at (so-far .rest))
+
+      -- event n was passed
+      pub progress-next : firstOf (look (before [] es n) n) (getD es n []) ≡ accepted → (SomeAt OnWritten es n → ⊥) → Progress es (n + 1)
+      progress-next q z =
+          let e = event-sound W F es sound n in
+          record {
+            low = omega arith;
+            rest = rw history (sym (walk-on (before [] es n) n (getD es n []) (drop (n + 1) es) q) ∙ left);
+            calm = rw history (calm-entered OnWritten own-on-written (e .worker) (before [] es n) (getD es n []) (e .own) z (so-far .calm));
+          }
+
+      pub progress-stop : (m s w u f : ℕ) → firstOf (look (before [] es n) n) (getD es n []) ≡ reported m s w u f → walk look end [] 0 es ≡ reported m s w u f
+      progress-stop m s w u f q = sym left ∙ walk-stop (before [] es n) n (getD es n []) (drop (n + 1) es) m s w u f q
+
+    pub progress-end : length es ≤ n → walk look end [] 0 es ≡ end (before [] es n) n
+    unfolding walk
+    progress-end l = let q : n ≡ length es = omega (arith, so-far .low) in sym (so-far .rest) ∙ rw (q, drop-length)
