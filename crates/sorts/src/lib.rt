@@ -45,7 +45,7 @@ impl Epoch {
 
     // The epoch that a writer word holds.
     pub fn part(word: u32) -> Epoch
-        ensures { λ r. ⌜ r ≡ record { stretch = record { 0 = stretchIn word }; worker = record { 0 = workerIn word } } ⌝ }
+        ensures { λ r. ⌜ (r .stretch .0 ≡ stretchIn word) × (r .worker .0 ≡ workerIn word) ⌝ }
     {
         Epoch {
             stretch: Stretch(word / Worker::LIMIT),

@@ -1,0 +1,38 @@
+-- What each way through the code's functions answers, over plain numbers and lists.
+use mathlib.Core.Path.{_≡_}
+use mathlib.Core.Bool.{Bool, true, false, and-false}
+use mathlib.Core.List.{List}
+use Prim.Native.Nat.{ℕ, _<_, _≤_}
+use native.Mathlib.Omega.{arith}
+use lib.Dec.{eqb}
+use lib.ListN.{getD}
+use borrow.Author.Tests.{lt-ltb, le-ltb, eq-eqb, ne-eqb}
+use Rattle.sorts.specs.Words.{stretchIn, workerIn}
+use Rattle.events.specs.Search.{at, none}
+use Rattle.tables.specs.Steps.{isOpen, writerNamed}
+
+module _ (W : ℕ) (S : List ℕ) (w n : ℕ) where
+  pub open-same : w < W → (n ≡ 0 → ⊥) → eqb n (getD S w 0) ≡ isOpen W S w n
+  unfolding isOpen
+  open-same a b = simp (lt-ltb w W a, lt-ltb 0 n (omega arith))
+
+  pub open-zero : n ≡ 0 → false ≡ isOpen W S w n
+  unfolding isOpen
+  open-zero a = simp (le-ltb 0 n (omega arith), and-false)
+
+  pub open-over : W ≤ w → false ≡ isOpen W S w n
+  unfolding isOpen
+  open-over a = simp (le-ltb w W a)
+
+module _ (W : ℕ) (S : List ℕ) (word w u s : ℕ) (b : Bool) (eu : u ≡ workerIn word) (es : s ≡ stretchIn word) where
+  pub writer-open : (u ≡ w → ⊥) → b ≡ isOpen W S u s → b ≡ true → at u ≡ writerNamed W S word w
+  unfolding writerNamed
+  writer-open q o t = rw (ne-eqb (workerIn word) w (λ k. q (omega arith)), ← eu, ← es, ← o, t)
+
+  pub writer-shut : (u ≡ w → ⊥) → b ≡ isOpen W S u s → b ≡ false → none ≡ writerNamed W S word w
+  unfolding writerNamed
+  writer-shut q o t = rw (ne-eqb (workerIn word) w (λ k. q (omega arith)), ← eu, ← es, ← o, t)
+
+pub writer-self : (W : ℕ) (S : List ℕ) (word w u : ℕ) → u ≡ workerIn word → u ≡ w → none ≡ writerNamed W S word w
+unfolding writerNamed
+writer-self W S word w u eu q = rw (eq-eqb (workerIn word) w (omega arith))
