@@ -1,0 +1,90 @@
+-- What each way through the functions answers.
+use mathlib.Core.Path.{_≡_, refl, sym, _∙_, ap}
+use mathlib.Core.Bool.{Bool, true, false, cond, _&&_, _||_, and-false}
+use mathlib.Core.List.{List}
+use Prim.Native.Nat.{ℕ, zero, suc, _+_, _*_, _-_, _<_, _≤_}
+use native.Mathlib.Omega.{arith}
+use lib.Dec.{eqb, ltb, leb}
+use lib.ListN.{length, getD}
+use borrow.Author.Tests.{lt-ltb, le-ltb, le-leb, lt-leb, eq-eqb, ne-eqb}
+use Rattle.recording.specs.declared.Fault.{Fault}
+use Rattle.recording.specs.declared.Fault.the-variants.{Fine, Refused}
+use Rattle.recording.specs.declared.Entry.{Entry}
+use Rattle.recording.specs.Tests.{need, _then_, rising, kindAllowed, fieldAllowed, eventPlace, eventTests}
+use Rattle.recording.specs.File.{numberAt, labelAt, entryAt}
+
+pub number-is : (s : List ℕ) (i r : ℕ) → r ≡ getD s i 0 + 256 * getD s (i + 1) 0 → r ≡ numberAt s i
+unfolding numberAt
+number-is s i r q = q
+
+pub label-first : (s : List ℕ) (at r : ℕ) → r ≡ numberAt s at → r ≡ labelAt s at 0
+unfolding labelAt
+label-first s at r q = let z : at + 0 ≡ at = omega arith in rw z q
+
+-- labels looked at up to label n, follow - n of them to come, which answer x
+module _ (s : List ℕ) (at number follow n : ℕ) (x : Fault) (inv : rising (labelAt s at) number at n (follow - n) ≡ x) where
+  left : n < follow → follow - n ≡ suc (follow - (n + 1))
+  left l = omega arith
+
+  pub labels-fall : (before label : ℕ) → n < follow → before ≡ labelAt s at n → label ≡ numberAt s (at + 2 * (n + 1)) → label ≤ before
+      → Refused number (at + 2 * (n + 1)) ≡ x
+  unfolding rising labelAt _then_ need
+  labels-fall before label l q r m = rw (left l, le-ltb (labelAt s at n) (labelAt s at (n + 1)) (omega arith)) at inv
+
+  pub labels-rise : (before label : ℕ) → n < follow → before ≡ labelAt s at n → label ≡ numberAt s (at + 2 * (n + 1)) → before < label
+      → rising (labelAt s at) number at (n + 1) (follow - (n + 1)) ≡ x
+  unfolding rising labelAt _then_ need
+  labels-rise before label l q r m = rw (left l, lt-ltb (labelAt s at n) (labelAt s at (n + 1)) (omega arith)) at inv
+
+  pub labels-end : follow ≤ n → Fine ≡ x
+  unfolding rising
+  labels-end l = let q : follow - n ≡ 0 = omega arith in rw q at inv
+
+pub label-next : (s : List ℕ) (at n r : ℕ) → r ≡ numberAt s (at + 2 * (n + 1)) → r ≡ labelAt s at (n + 1)
+unfolding labelAt
+label-next s at n r q = q
+
+pub entry-is : (s : List ℕ) (i kind worker field : ℕ) → kind ≡ getD s i 0 → worker ≡ getD s (i + 1) 0 → field ≡ numberAt s (i + 2)
+    → _≡_ {A = Entry} (record { kind = kind; worker = worker; field = field }) (entryAt s i)
+unfolding entryAt
+entry-is s i kind worker field p q r = rw (p, q, r)
+
+kind-known : (kind : ℕ) → (kind ≡ 0 → ⊥) → kind ≤ 3 → kindAllowed kind ≡ true
+unfolding kindAllowed
+kind-known zero z l = absurd (z refl)
+kind-known (suc zero) z l = refl
+kind-known (suc (suc zero)) z l = refl
+kind-known (suc (suc (suc zero))) z l = refl
+kind-known (suc (suc (suc (suc kind)))) z l = absurd (omega arith)
+
+-- an event that starts at start, test by test
+module _ (W F start : ℕ) (e : Entry) where
+  pub kind-zero : e .kind ≡ 0 → Refused 7 start ≡ eventTests W F e start
+  unfolding eventTests kindAllowed eventPlace _then_ need
+  kind-zero z = rw z
+
+  pub kind-over : 3 < e .kind → Refused 7 start ≡ eventTests W F e start
+  unfolding eventTests kindAllowed eventPlace _then_ need
+  kind-over l = rw (ne-eqb (e .kind) 1 (λ q. omega arith), ne-eqb (e .kind) 2 (λ q. omega arith), ne-eqb (e .kind) 3 (λ q. omega arith))
+
+  module _ (z : e .kind ≡ 0 → ⊥) (l : e .kind ≤ 3) where
+    pub worker-over : W ≤ e .worker → Refused 8 start ≡ eventTests W F e start
+    unfolding eventTests eventPlace _then_ need
+    worker-over a = rw (kind-known (e .kind) z l, le-ltb (e .worker) W a)
+
+    module _ (a : e .worker < W) where
+      pub crossing-fine : e .kind ≡ 3 → e .field ≡ 0 → Fine ≡ eventTests W F e start
+      unfolding eventTests fieldAllowed _then_ need
+      crossing-fine k f = rw (kind-known (e .kind) z l, lt-ltb (e .worker) W a, k, f)
+
+      pub crossing-field : e .kind ≡ 3 → (e .field ≡ 0 → ⊥) → Refused 9 start ≡ eventTests W F e start
+      unfolding eventTests eventPlace fieldAllowed _then_ need
+      crossing-field k f = rw (kind-known (e .kind) z l, lt-ltb (e .worker) W a, k, ne-eqb (e .field) 0 f)
+
+      pub access-fine : (e .kind ≡ 3 → ⊥) → e .field < F → Fine ≡ eventTests W F e start
+      unfolding eventTests fieldAllowed _then_ need
+      access-fine k f = rw (kind-known (e .kind) z l, lt-ltb (e .worker) W a, ne-eqb (e .kind) 3 k, lt-ltb (e .field) F f)
+
+      pub access-field : (e .kind ≡ 3 → ⊥) → F ≤ e .field → Refused 9 start ≡ eventTests W F e start
+      unfolding eventTests eventPlace fieldAllowed _then_ need
+      access-field k f = rw (kind-known (e .kind) z l, lt-ltb (e .worker) W a, ne-eqb (e .kind) 3 k, le-ltb (e .field) F f)

@@ -1,0 +1,2 @@
+-- Laws of the file layer.
+pub mod Answers

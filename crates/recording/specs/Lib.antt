@@ -1,0 +1,3 @@
+-- What must be believed of a recording file, in reading order.
+pub mod Tests
+pub mod File

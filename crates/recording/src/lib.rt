@@ -1,0 +1,109 @@
+// The file of a recording: bytes to labels and events, refused by the first test that fails.
+use events::Event;
+use sorts::Field;
+use sorts::Worker;
+ghost use mathlib.Core.Path.{_≡_};
+ghost use Prim.Native.Nat.{_+_, _*_, _<_, _≤_};
+ghost use lib.ListN.{length, getD};
+ghost use Rattle.recording.specs.Tests.{rising, eventTests, eventStart};
+ghost use Rattle.recording.specs.File.{twoByte, numberAt, labelAt, entryAt, checked};
+
+// What a test of the file answers.
+pub enum Fault {
+    Fine,
+    // Number and place.
+    Refused(u32, usize),
+}
+
+// An event as the file gives it: three numbers, not tested yet.
+pub struct Entry {
+    pub kind: u32,
+    pub worker: u32,
+    pub field: u32,
+}
+
+// How many workers, fields and events a file has.
+pub struct Counts {
+    pub workers: u32,
+    pub fields: u32,
+    pub events: u32,
+}
+
+// The answer to a file: refused by number and place, or fine.
+pub enum Checked {
+    Refused(u32, usize),
+    Fine(Counts),
+}
+
+fn wide(x: u8) -> u32
+    ensures { λ r. ⌜ (r ≡ x) × (r < 256) ⌝ }
+{
+    x as u32
+}
+
+fn two_byte(low: u8, high: u8) -> u32
+    ensures { λ r. ⌜ (r ≡ twoByte low high) × (r < 65536) ⌝ }
+{
+    wide(low) + 256 * wide(high)
+}
+
+fn number_at(file: &[u8], i: usize) -> u32
+    requires { ⌜ i + 2 ≤ length (now file) ⌝ }
+    ensures { λ r. ⌜ (r ≡ numberAt (now (file .entry)) i) × (r < 65536) ⌝ }
+{
+    two_byte(file[i], file[i + 1])
+}
+
+// The label at at is below the next, and so on for as many labels as follow.
+fn labels(file: &[u8], at: usize, follow: usize, number: u32) -> Fault
+    requires { ⌜ at + 2 * follow + 2 ≤ length (now file) ⌝ }
+    ensures { λ r. ⌜ r ≡ rising (labelAt (now (file .entry)) at) number at 0 follow ⌝ }
+{
+    let mut before = number_at(file, at);
+    for n in 0..follow {
+        let place = at + 2 * (n + 1);
+        let label = number_at(file, place);
+        if label <= before {
+            return Fault::Refused(number, place);
+        }
+        before = label;
+    }
+    Fault::Fine
+}
+
+fn entry_at(file: &[u8], i: usize) -> Entry
+    requires { ⌜ i + 4 ≤ length (now file) ⌝ }
+    ensures { λ r. ⌜ r ≡ entryAt (now (file .entry)) i ⌝ }
+{
+    Entry {
+        kind: wide(file[i]),
+        worker: wide(file[i + 1]),
+        field: number_at(file, i + 2),
+    }
+}
+
+// The tests within an event that starts at start.
+fn test_event(e: Entry, workers: u32, fields: u32, start: usize) -> Fault
+    ensures { λ r. ⌜ r ≡ eventTests workers fields e start ⌝ }
+{
+    let kind = e.kind;
+    if kind == 0 {
+        return Fault::Refused(7, start);
+    }
+    if 3 < kind {
+        return Fault::Refused(7, start);
+    }
+    if workers <= e.worker {
+        return Fault::Refused(8, start);
+    }
+    if kind == 3 {
+        if e.field == 0 {
+            return Fault::Fine;
+        }
+        return Fault::Refused(9, start);
+    }
+    if e.field < fields {
+        return Fault::Fine;
+    }
+    Fault::Refused(9, start)
+}
