@@ -10,8 +10,10 @@ use borrow.Author.Tests.{lt-ltb, le-ltb, le-leb, lt-leb, eq-eqb, ne-eqb}
 use Rattle.recording.specs.declared.Fault.{Fault}
 use Rattle.recording.specs.declared.Fault.the-variants.{Fine, Refused}
 use Rattle.recording.specs.declared.Entry.{Entry}
-use Rattle.recording.specs.Tests.{need, _then_, rising, kindAllowed, fieldAllowed, eventPlace, eventTests}
-use Rattle.recording.specs.File.{numberAt, labelAt, entryAt}
+use Rattle.recording.specs.declared.Counted.{Counted}
+use Rattle.recording.specs.declared.Counted.the-variants.{Refused as Counted-refused, Count}
+use Rattle.recording.specs.Tests.{need, _then_, rising, kindAllowed, fieldAllowed, eventPlace, eventTests, eventsTests, section, labelSection, eventSection, endTest}
+use Rattle.recording.specs.File.{numberAt, labelAt, entryAt, entriesAt, counted}
 
 pub number-is : (s : List ℕ) (i r : ℕ) → r ≡ getD s i 0 + 256 * getD s (i + 1) 0 → r ≡ numberAt s i
 unfolding numberAt
@@ -88,3 +90,61 @@ module _ (W F start : ℕ) (e : Entry) where
       pub access-field : (e .kind ≡ 3 → ⊥) → F ≤ e .field → Refused 9 start ≡ eventTests W F e start
       unfolding eventTests eventPlace fieldAllowed _then_ need
       access-field k f = rw (kind-known (e .kind) z l, lt-ltb (e .worker) W a, ne-eqb (e .kind) 3 k, le-ltb (e .field) F f)
+
+-- events looked at before event n, count - n of them to come, which answer x
+module _ (s : List ℕ) (at W F count n : ℕ) (x : Fault) (inv : eventsTests W F (entriesAt s at) at n (count - n) ≡ x) where
+  to-come : n < count → count - n ≡ suc (count - (n + 1))
+  to-come l = omega arith
+
+  module _ (e : Entry) (r : Fault) (l : n < count) (q : e ≡ entryAt s (at + 4 * n)) (t : r ≡ eventTests W F e (at + 4 * n)) where
+    pub events-refused : (number place : ℕ) → r ≡ Refused number place → Refused number place ≡ x
+    unfolding eventsTests entriesAt _then_
+    events-refused number place k = rw (to-come l, ← q, ← t, k) at inv
+
+    pub events-next : r ≡ Fine → eventsTests W F (entriesAt s at) at (n + 1) (count - (n + 1)) ≡ x
+    unfolding eventsTests entriesAt _then_
+    events-next k = rw (to-come l, ← q, ← t, k) at inv
+
+  pub events-end : count ≤ n → Fine ≡ x
+  unfolding eventsTests
+  events-end l = let q : count - n ≡ 0 = omega arith in rw q at inv
+
+-- a section of labels, test by test
+module _ (s : List ℕ) (at limit range order : ℕ) where
+  pub section-short : length s - at < 2 → at ≤ length s
+      → Counted-refused 1 (length s) ≡ counted (labelSection (length s) at (numberAt s at) (labelAt s (at + 2)) limit range order) (numberAt s at)
+  unfolding labelSection section _then_ need
+  section-short l _ = rw (lt-leb (at + 2) (length s) (omega arith))
+
+  module _ (n : ℕ) (a : 2 ≤ length s - at) (q : n ≡ numberAt s at) where
+    here : leb (at + 2) (length s) ≡ true
+    here = le-leb (at + 2) (length s) (omega arith)
+
+    pub section-zero : n ≡ 0
+        → Counted-refused range at ≡ counted (labelSection (length s) at (numberAt s at) (labelAt s (at + 2)) limit range order) (numberAt s at)
+    unfolding labelSection section _then_ need
+    section-zero z = rw (here, ← q, z)
+
+    pub section-over : (n ≡ 0 → ⊥) → limit < n
+        → Counted-refused range at ≡ counted (labelSection (length s) at (numberAt s at) (labelAt s (at + 2)) limit range order) (numberAt s at)
+    unfolding labelSection section _then_ need
+    section-over _ z = simp (here, ← q, lt-leb n limit z, and-false)
+
+    module _ (z : n ≡ 0 → ⊥) (y : n ≤ limit) where
+      pub section-cut : length s - at - 2 < 2 * n
+          → Counted-refused 1 (length s) ≡ counted (labelSection (length s) at (numberAt s at) (labelAt s (at + 2)) limit range order) (numberAt s at)
+      unfolding labelSection section _then_ need
+      section-cut l = rw (here, ← q, lt-ltb 0 n (omega arith), le-leb n limit y, lt-leb (at + 2 + 2 * n) (length s) (omega arith))
+
+      module _ (r : Fault) (l : 2 * n ≤ length s - at - 2) (k : r ≡ rising (labelAt s (at + 2)) order (at + 2) 0 (n - 1)) where
+        pub section-order : (number place : ℕ) → r ≡ Refused number place
+            → Counted-refused number place ≡ counted (labelSection (length s) at (numberAt s at) (labelAt s (at + 2)) limit range order) (numberAt s at)
+        unfolding labelSection section _then_ need
+        section-order number place t =
+            rw (here, ← q, lt-ltb 0 n (omega arith), le-leb n limit y, le-leb (at + 2 + 2 * n) (length s) (omega arith), ← k, t)
+
+        pub section-fine : r ≡ Fine
+            → Count n ≡ counted (labelSection (length s) at (numberAt s at) (labelAt s (at + 2)) limit range order) (numberAt s at)
+        unfolding labelSection section _then_ need
+        section-fine t =
+            rw (here, ← q, lt-ltb 0 n (omega arith), le-leb n limit y, le-leb (at + 2 + 2 * n) (length s) (omega arith), ← k, t)

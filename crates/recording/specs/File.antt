@@ -10,9 +10,11 @@ use Rattle.recording.specs.declared.Fault.{Fault}
 use Rattle.recording.specs.declared.Fault.the-variants.{Fine, Refused}
 use Rattle.recording.specs.declared.Entry.{Entry}
 use Rattle.recording.specs.declared.Counts.{Counts}
+use Rattle.recording.specs.declared.Counted.{Counted}
+use Rattle.recording.specs.declared.Counted.the-variants.{Refused as Counted-refused, Count}
 use Rattle.recording.specs.declared.Checked.{Checked}
 use Rattle.recording.specs.declared.Checked.the-variants.{Refused as Checked-refused, Fine as Checked-fine}
-use Rattle.recording.specs.Tests.{Contents, fieldsAt, eventsAt, eventStart, allTests}
+use Rattle.recording.specs.Tests.{Contents, eventBytes, fieldsAt, eventsAt, allTests}
 
 -- All two-byte numbers have the low byte first.
 abbrev pub twoByte : ℕ → ℕ → ℕ
@@ -29,6 +31,10 @@ labelAt s at n = numberAt s (at + 2 * n)
 -- An event's bytes: kind, worker number, field number (2 bytes).
 unfoldable pub entryAt : List ℕ → ℕ → Entry
 entryAt s i = record { kind = getD s i 0; worker = getD s (i + 1) 0; field = numberAt s (i + 2) }
+
+-- the n-th of the events that start at place at
+unfoldable pub entriesAt : List ℕ → ℕ → ℕ → Entry
+entriesAt s at n = entryAt s (at + eventBytes * n)
 
 -- Kind 1 is a read, 2 a write, 3 a crossing.
 unfoldable pub eventOf : Entry → Event
@@ -55,7 +61,7 @@ fieldLabel s = labelAt s (fieldsAt (workerCount s) + 2)
 
 -- event n, as its numbers and as an event
 unfoldable pub entryIn : List ℕ → ℕ → Entry
-entryIn s n = entryAt s (eventStart (workerCount s) (fieldCount s) n)
+entryIn s = entriesAt s (eventsAt (workerCount s) (fieldCount s) + 2)
 
 unfoldable pub eventAt : List ℕ → ℕ → Event
 eventAt s n = eventOf (entryIn s n)
@@ -78,12 +84,17 @@ contentsIn s =
       fields = fieldCount s;
       fieldLabel = fieldLabel s;
       events = eventCount s;
-      entry = entryIn s
+      entry = entryIn s;
     }
 
 -- The answer to a file, and to lent tables that have their full length or not.
 unfoldable pub refusal : Bool → List ℕ → Fault
 refusal tables s = allTests tables (length s) (contentsIn s)
+
+-- A section's answer, with its count where it is fine.
+abbrev pub counted : Fault → ℕ → Counted
+counted (Refused number place) count = Counted-refused number place
+counted Fine count = Count count
 
 abbrev pub countsIn : List ℕ → Counts
 countsIn s = record { workers = workerCount s; fields = fieldCount s; events = eventCount s }

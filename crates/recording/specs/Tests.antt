@@ -22,15 +22,12 @@ _then_ (Refused number place) later = Refused number place
 abbrev pub eventBytes : ℕ
 eventBytes = 4
 
--- With W workers and F fields: where the field count stands, where the event count stands, and where event n starts.
+-- With W workers and F fields: the place of the field count, and of the event count.
 abbrev pub fieldsAt : ℕ → ℕ
 fieldsAt W = 2 + 2 * W
 
 abbrev pub eventsAt : ℕ → ℕ → ℕ
 eventsAt W F = 4 + 2 * W + 2 * F
-
-abbrev pub eventStart : ℕ → ℕ → ℕ → ℕ
-eventStart W F n = eventsAt W F + 2 + eventBytes * n
 
 -- With W workers, F fields and E events a file has exactly 6 + 2W + 2F + 4E bytes.
 abbrev pub fileSize : ℕ → ℕ → ℕ → ℕ
@@ -61,11 +58,11 @@ eventTests W F e start =
     then need (ltb (e .worker) W) 8 (eventPlace 8 start)
     then need (fieldAllowed F (e .kind) (e .field)) 9 (eventPlace 9 start)
 
--- Event n and on, k of them, the first of which starts at start.
-unfoldable pub eventsTests : ℕ → ℕ → (ℕ → Entry) → ℕ → ℕ → Fault
-eventsTests W F entry n zero = Fine
-eventsTests W F entry n (suc k) =
-    eventTests W F (entry n) (eventStart W F n) then eventsTests W F entry (n + 1) k
+-- Event n and on, k of them; event 0 stands at place at.
+unfoldable pub eventsTests : ℕ → ℕ → (ℕ → Entry) → ℕ → ℕ → ℕ → Fault
+eventsTests W F entry at n zero = Fine
+eventsTests W F entry at n (suc k) =
+    eventTests W F (entry n) (at + eventBytes * n) then eventsTests W F entry at (n + 1) k
 
 -- A section whose count stands at at: the count is present (1), its range, all its items are present (1), its items in order. The place of 1 is the file length.
 unfoldable pub section : ℕ → ℕ → Fault → ℕ → Fault → Fault
@@ -81,9 +78,13 @@ labelSection size at count label limit range order =
     section size at (need (ltb 0 count && leb count limit) range at) (2 * count) (rising label order (at + 2) 0 (count - 1))
 
 -- Event count, 0 to 16,000 (6). Then that many events.
-unfoldable pub eventSection : ℕ → ℕ → ℕ → ℕ → (ℕ → Entry) → Fault
-eventSection size W F E entry =
-    section size (eventsAt W F) (need (leb E 16000) 6 (eventsAt W F)) (eventBytes * E) (eventsTests W F entry 0 E)
+unfoldable pub eventSection : ℕ → ℕ → ℕ → ℕ → ℕ → (ℕ → Entry) → Fault
+eventSection size at W F count entry =
+    section size at (need (leb count 16000) 6 at) (eventBytes * count) (eventsTests W F entry (at + 2) 0 count)
+
+-- 10: bytes after the last event; first extra byte.
+unfoldable pub endTest : ℕ → ℕ → Fault
+endTest size end = need (leb size end) 10 end
 
 -- What a file holds: worker labels, field labels, and the numbers of each event.
 pub record Contents : Type 0 where
@@ -99,8 +100,8 @@ unfoldable pub fileTests : ℕ → Contents → Fault
 fileTests size c =
     labelSection size 0 (c .workers) (c .workerLabel) 16 2 3
     then labelSection size (fieldsAt (c .workers)) (c .fields) (c .fieldLabel) 512 4 5
-    then eventSection size (c .workers) (c .fields) (c .events) (c .entry)
-    then need (leb size (fileSize (c .workers) (c .fields) (c .events))) 10 (fileSize (c .workers) (c .fields) (c .events))
+    then eventSection size (eventsAt (c .workers) (c .fields)) (c .workers) (c .fields) (c .events) (c .entry)
+    then endTest size (fileSize (c .workers) (c .fields) (c .events))
 
 -- Test 11 comes before the file is looked at: every lent table has its full length.
 unfoldable pub allTests : Bool → ℕ → Contents → Fault

@@ -5,8 +5,8 @@ use sorts::Worker;
 ghost use mathlib.Core.Path.{_≡_};
 ghost use Prim.Native.Nat.{_+_, _*_, _<_, _≤_};
 ghost use lib.ListN.{length, getD};
-ghost use Rattle.recording.specs.Tests.{rising, eventTests, eventStart};
-ghost use Rattle.recording.specs.File.{twoByte, numberAt, labelAt, entryAt, checked};
+ghost use Rattle.recording.specs.Tests.{_then_, rising, labelSection, eventTests, eventsTests, eventSection, endTest, eventsAt, fileSize};
+ghost use Rattle.recording.specs.File.{twoByte, numberAt, labelAt, entryAt, entriesAt, counted, answered, checked};
 
 // What a test of the file answers.
 pub enum Fault {
@@ -33,6 +33,12 @@ pub struct Counts {
 pub enum Checked {
     Refused(u32, usize),
     Fine(Counts),
+}
+
+// The answer to one section: refused, or fine with its count.
+enum Counted {
+    Refused(u32, usize),
+    Count(u32),
 }
 
 fn wide(x: u8) -> u32
@@ -71,6 +77,32 @@ fn labels(file: &[u8], at: usize, follow: usize, number: u32) -> Fault
     Fault::Fine
 }
 
+// A section of labels whose count stands at at.
+fn label_section(file: &[u8], at: usize, limit: u32, range: u32, order: u32) -> Counted
+    requires { ⌜ at ≤ length (now file) ⌝ }
+    ensures { λ r. ⌜ r ≡ counted (labelSection (length (now (file .entry))) at (numberAt (now (file .entry)) at) (labelAt (now (file .entry)) (at + 2)) limit range order) (numberAt (now (file .entry)) at) ⌝ }
+{
+    let end = file.len();
+    if end - at < 2 {
+        return Counted::Refused(1, end);
+    }
+    let count = number_at(file, at);
+    if count == 0 {
+        return Counted::Refused(range, at);
+    }
+    if limit < count {
+        return Counted::Refused(range, at);
+    }
+    let n = count as usize;
+    if end - at - 2 < 2 * n {
+        return Counted::Refused(1, end);
+    }
+    match labels(file, at + 2, n - 1, order) {
+        Fault::Refused(number, place) => Counted::Refused(number, place),
+        Fault::Fine => Counted::Count(count),
+    }
+}
+
 fn entry_at(file: &[u8], i: usize) -> Entry
     requires { ⌜ i + 4 ≤ length (now file) ⌝ }
     ensures { λ r. ⌜ r ≡ entryAt (now (file .entry)) i ⌝ }
@@ -106,4 +138,19 @@ fn test_event(e: Entry, workers: u32, fields: u32, start: usize) -> Fault
         return Fault::Fine;
     }
     Fault::Refused(9, start)
+}
+
+// Each of the events that start at at, to the first that is refused.
+fn test_events(file: &[u8], at: usize, count: usize, workers: u32, fields: u32) -> Fault
+    requires { ⌜ at + 4 * count ≤ length (now file) ⌝ }
+    ensures { λ r. ⌜ r ≡ eventsTests workers fields (entriesAt (now (file .entry)) at) at 0 count ⌝ }
+{
+    for n in 0..count {
+        let start = at + 4 * n;
+        let e = entry_at(file, start);
+        if let Fault::Refused(number, place) = test_event(e, workers, fields, start) {
+            return Fault::Refused(number, place);
+        }
+    }
+    Fault::Fine
 }

@@ -11,7 +11,7 @@ use Rattle.recording.proofs.labels.Statement.{statement}
 use Rattle.recording.proofs.labels.Tie as tie
 
 abbrev Inv-loop : tie.InvT-loop
-Inv-loop file at follow number before₀ n₀ before n = 
+Inv-loop file at follow number before₀ n₀ before n =
     (n ≤ follow) × (at + 2 * follow + 2 ≤ length file) × (before ≡ labelAt file at n)
     × (rising (labelAt file at) number at n (follow - n) ≡ rising (labelAt file at) number at 0 follow)
 
