@@ -6,14 +6,18 @@ use Prim.Native.Nat.{ℕ, zero, suc, _+_, _*_, _-_, _<_, _≤_}
 use native.Mathlib.Omega.{arith}
 use lib.Dec.{eqb, ltb, leb}
 use lib.ListN.{length, getD}
-use borrow.Author.Tests.{lt-ltb, le-ltb, le-leb, lt-leb, eq-eqb, ne-eqb}
+use borrow.Author.Tests.{lt-ltb, le-ltb, le-leb, lt-leb, eq-eqb, ne-eqb, leb-true}
+use Rattle.recording.proofs.Tests.{need-fine, section-passed, counted-count, counted-refused}
 use Rattle.recording.specs.declared.Fault.{Fault}
 use Rattle.recording.specs.declared.Fault.the-variants.{Fine, Refused}
 use Rattle.recording.specs.declared.Entry.{Entry}
+use Rattle.recording.specs.declared.Counts.{Counts}
+use Rattle.recording.specs.declared.Checked.{Checked}
+use Rattle.recording.specs.declared.Checked.the-variants.{Refused as Checked-refused, Fine as Checked-fine}
 use Rattle.recording.specs.declared.Counted.{Counted}
 use Rattle.recording.specs.declared.Counted.the-variants.{Refused as Counted-refused, Count}
-use Rattle.recording.specs.Tests.{need, _then_, rising, kindAllowed, fieldAllowed, eventPlace, eventTests, eventsTests, section, labelSection, eventSection, endTest}
-use Rattle.recording.specs.File.{numberAt, labelAt, entryAt, entriesAt, counted}
+use Rattle.recording.specs.Tests.{need, _then_, rising, kindAllowed, fieldAllowed, eventPlace, eventTests, eventsTests, section, labelSection, eventSection, endTest, eventsToEnd, eventsAt, fileSize, fileTests, allTests}
+use Rattle.recording.specs.File.{numberAt, labelAt, entryAt, entriesAt, workerCount, fieldCount, eventCount, workerLabel, fieldLabel, entryIn, contentsIn, refusal, labelsAnswer, eventsAnswer, toEndAnswer, checked}
 
 pub number-is : (s : List ℕ) (i r : ℕ) → r ≡ getD s i 0 + 256 * getD s (i + 1) 0 → r ≡ numberAt s i
 unfolding numberAt
@@ -112,8 +116,8 @@ module _ (s : List ℕ) (at W F count n : ℕ) (x : Fault) (inv : eventsTests W 
 -- a section of labels, test by test
 module _ (s : List ℕ) (at limit range order : ℕ) where
   pub section-short : length s - at < 2 → at ≤ length s
-      → Counted-refused 1 (length s) ≡ counted (labelSection (length s) at (numberAt s at) (labelAt s (at + 2)) limit range order) (numberAt s at)
-  unfolding labelSection section _then_ need
+      → Counted-refused 1 (length s) ≡ labelsAnswer s at limit range order
+  unfolding labelsAnswer labelSection section _then_ need
   section-short l _ = rw (lt-leb (at + 2) (length s) (omega arith))
 
   module _ (n : ℕ) (a : 2 ≤ length s - at) (q : n ≡ numberAt s at) where
@@ -121,30 +125,143 @@ module _ (s : List ℕ) (at limit range order : ℕ) where
     here = le-leb (at + 2) (length s) (omega arith)
 
     pub section-zero : n ≡ 0
-        → Counted-refused range at ≡ counted (labelSection (length s) at (numberAt s at) (labelAt s (at + 2)) limit range order) (numberAt s at)
-    unfolding labelSection section _then_ need
+        → Counted-refused range at ≡ labelsAnswer s at limit range order
+    unfolding labelsAnswer labelSection section _then_ need
     section-zero z = rw (here, ← q, z)
 
     pub section-over : (n ≡ 0 → ⊥) → limit < n
-        → Counted-refused range at ≡ counted (labelSection (length s) at (numberAt s at) (labelAt s (at + 2)) limit range order) (numberAt s at)
-    unfolding labelSection section _then_ need
+        → Counted-refused range at ≡ labelsAnswer s at limit range order
+    unfolding labelsAnswer labelSection section _then_ need
     section-over _ z = simp (here, ← q, lt-leb n limit z, and-false)
 
     module _ (z : n ≡ 0 → ⊥) (y : n ≤ limit) where
       pub section-cut : length s - at - 2 < 2 * n
-          → Counted-refused 1 (length s) ≡ counted (labelSection (length s) at (numberAt s at) (labelAt s (at + 2)) limit range order) (numberAt s at)
-      unfolding labelSection section _then_ need
+          → Counted-refused 1 (length s) ≡ labelsAnswer s at limit range order
+      unfolding labelsAnswer labelSection section _then_ need
       section-cut l = rw (here, ← q, lt-ltb 0 n (omega arith), le-leb n limit y, lt-leb (at + 2 + 2 * n) (length s) (omega arith))
 
       module _ (r : Fault) (l : 2 * n ≤ length s - at - 2) (k : r ≡ rising (labelAt s (at + 2)) order (at + 2) 0 (n - 1)) where
         pub section-order : (number place : ℕ) → r ≡ Refused number place
-            → Counted-refused number place ≡ counted (labelSection (length s) at (numberAt s at) (labelAt s (at + 2)) limit range order) (numberAt s at)
-        unfolding labelSection section _then_ need
+            → Counted-refused number place ≡ labelsAnswer s at limit range order
+        unfolding labelsAnswer labelSection section _then_ need
         section-order number place t =
             rw (here, ← q, lt-ltb 0 n (omega arith), le-leb n limit y, le-leb (at + 2 + 2 * n) (length s) (omega arith), ← k, t)
 
         pub section-fine : r ≡ Fine
-            → Count n ≡ counted (labelSection (length s) at (numberAt s at) (labelAt s (at + 2)) limit range order) (numberAt s at)
-        unfolding labelSection section _then_ need
+            → Count n ≡ labelsAnswer s at limit range order
+        unfolding labelsAnswer labelSection section _then_ need
         section-fine t =
             rw (here, ← q, lt-ltb 0 n (omega arith), le-leb n limit y, le-leb (at + 2 + 2 * n) (length s) (omega arith), ← k, t)
+
+-- the section of events, test by test
+module _ (s : List ℕ) (at W F : ℕ) where
+  pub events-short : length s - at < 2 → at ≤ length s
+      → Counted-refused 1 (length s) ≡ eventsAnswer s at W F
+  unfolding eventsAnswer eventSection section _then_ need
+  events-short l _ = rw (lt-leb (at + 2) (length s) (omega arith))
+
+  module _ (n : ℕ) (a : 2 ≤ length s - at) (q : n ≡ numberAt s at) where
+    count-here : leb (at + 2) (length s) ≡ true
+    count-here = le-leb (at + 2) (length s) (omega arith)
+
+    pub events-over : 16000 < n → Counted-refused 6 at ≡ eventsAnswer s at W F
+    unfolding eventsAnswer eventSection section _then_ need
+    events-over z = rw (count-here, ← q, lt-leb n 16000 z)
+
+    module _ (y : n ≤ 16000) where
+      pub events-cut : length s - at - 2 < 4 * n
+          → Counted-refused 1 (length s) ≡ eventsAnswer s at W F
+      unfolding eventsAnswer eventSection section _then_ need
+      events-cut l = rw (count-here, ← q, le-leb n 16000 y, lt-leb (at + 2 + 4 * n) (length s) (omega arith))
+
+      module _ (r : Fault) (l : 4 * n ≤ length s - at - 2) (k : r ≡ eventsTests W F (entriesAt s (at + 2)) (at + 2) 0 n) where
+        pub event-refused : (number place : ℕ) → r ≡ Refused number place
+            → Counted-refused number place ≡ eventsAnswer s at W F
+        unfolding eventsAnswer eventSection section _then_ need
+        event-refused number place t = rw (count-here, ← q, le-leb n 16000 y, le-leb (at + 2 + 4 * n) (length s) (omega arith), ← k, t)
+
+        pub events-fine : r ≡ Fine → Count n ≡ eventsAnswer s at W F
+        unfolding eventsAnswer eventSection section _then_ need
+        events-fine t = rw (count-here, ← q, le-leb n 16000 y, le-leb (at + 2 + 4 * n) (length s) (omega arith), ← k, t)
+
+-- from the event count on: the events answer r, and then the end
+module _ (s : List ℕ) (W F : ℕ) (r : Counted) (q : r ≡ eventsAnswer s (4 + 2 * W + 2 * F) W F) where
+  pub to-end-refused : (number place : ℕ) → r ≡ Counted-refused number place → Checked-refused number place ≡ toEndAnswer s W F
+  unfolding toEndAnswer eventsAnswer eventsToEnd _then_
+  to-end-refused number place k =
+      rw (counted-refused (eventSection (length s) (eventsAt W F) W F (numberAt s (eventsAt W F)) (entriesAt s (eventsAt W F + 2))) _ number place (sym q ∙ k))
+
+  module _ (n : ℕ) (k : r ≡ Count n) where
+    fine : (eventSection (length s) (eventsAt W F) W F (numberAt s (eventsAt W F)) (entriesAt s (eventsAt W F + 2)) ≡ Fine) × (numberAt s (eventsAt W F) ≡ n)
+    unfolding eventsAnswer
+    fine = counted-count _ _ n (sym q ∙ k)
+
+    pub bytes-after : 4 + 2 * W + 2 * F + 2 + 4 * n < length s → Checked-refused 10 (4 + 2 * W + 2 * F + 2 + 4 * n) ≡ toEndAnswer s W F
+    unfolding toEndAnswer eventsToEnd endTest _then_ need
+    bytes-after m =
+        let z : 4 + 2 * W + 2 * F + 2 + 4 * n ≡ 6 + 2 * W + 2 * F + 4 * n = omega arith in
+        rw (fine .0, fine .1, z, lt-leb (length s) (6 + 2 * W + 2 * F + 4 * n) (omega arith))
+
+    pub to-end-fine : length s ≤ 4 + 2 * W + 2 * F + 2 + 4 * n → Checked-fine (record { workers = W; fields = F; events = n }) ≡ toEndAnswer s W F
+    unfolding toEndAnswer eventsToEnd endTest _then_ need
+    to-end-fine m = rw (fine .0, fine .1, le-leb (length s) (6 + 2 * W + 2 * F + 4 * n) (omega arith))
+
+and-right : (a b : Bool) → a && b ≡ true → b ≡ true
+and-right true b t = t
+and-right false b t = let z : _≡_ {A = ℕ} 0 1 = cc in absurd (omega arith)
+
+-- a section of labels that answers r, refused or fine: then its count is small and its labels are there
+module _ (s : List ℕ) (at limit range order : ℕ) (r : Counted) (q : r ≡ labelsAnswer s at limit range order) where
+  section-is-refused : (number place : ℕ) → r ≡ Counted-refused number place
+      → labelSection (length s) at (numberAt s at) (labelAt s (at + 2)) limit range order ≡ Refused number place
+  unfolding labelsAnswer
+  section-is-refused number place k = counted-refused _ _ number place (sym q ∙ k)
+
+  module _ (m : ℕ) (k : r ≡ Count m) where
+    section-is-fine : (labelSection (length s) at (numberAt s at) (labelAt s (at + 2)) limit range order ≡ Fine) × (numberAt s at ≡ m)
+    unfolding labelsAnswer
+    section-is-fine = counted-count _ _ m (sym q ∙ k)
+
+    section-room : at + 2 + 2 * m ≤ length s
+    unfolding labelSection
+    section-room = rw (section-is-fine .1) at (section-passed _ _ _ _ _ (section-is-fine .0) .room)
+
+    section-few : m ≤ limit
+    unfolding labelSection
+    section-few =
+        let t = rw (section-is-fine .1) at (need-fine _ _ _ (section-passed _ _ _ _ _ (section-is-fine .0) .range-fine)) in
+        leb-true m limit (and-right (ltb 0 m) (leb m limit) t)
+
+-- the whole file: the workers answer r, and where they are fine the fields answer r′
+module _ (s : List ℕ) (r : Counted) (q : r ≡ labelsAnswer s 0 16 2 3) where
+  pub workers-refused : (number place : ℕ) → r ≡ Counted-refused number place → Checked-refused number place ≡ checked s
+  unfolding checked refusal allTests fileTests contentsIn workerCount workerLabel _then_ need
+  workers-refused number place k = rw (section-is-refused s 0 16 2 3 r q number place k)
+
+  module _ (W : ℕ) (k : r ≡ Count W) where
+    pub workers-room : 2 + 2 * W ≤ length s
+    workers-room = section-room s 0 16 2 3 r q W k
+
+    pub workers-few : W ≤ 16
+    workers-few = section-few s 0 16 2 3 r q W k
+
+    module _ (r′ : Counted) (q′ : r′ ≡ labelsAnswer s (2 + 2 * W) 512 4 5) where
+      pub fields-refused : (number place : ℕ) → r′ ≡ Counted-refused number place → Checked-refused number place ≡ checked s
+      unfolding checked refusal allTests fileTests contentsIn workerCount workerLabel fieldCount fieldLabel _then_ need
+      fields-refused number place k′ =
+          let a = section-is-fine s 0 16 2 3 r q W k in
+          rw (a .0, a .1, section-is-refused s (2 + 2 * W) 512 4 5 r′ q′ number place k′)
+
+      module _ (F : ℕ) (k′ : r′ ≡ Count F) where
+        pub fields-few : F ≤ 512
+        fields-few = section-few s (2 + 2 * W) 512 4 5 r′ q′ F k′
+
+        pub fields-room : 4 + 2 * W + 2 * F ≤ length s
+        fields-room = let z = section-room s (2 + 2 * W) 512 4 5 r′ q′ F k′ in omega arith
+
+        pub events-answer : (a : Checked) → a ≡ toEndAnswer s W F → a ≡ checked s
+        unfolding checked refusal allTests fileTests contentsIn workerCount workerLabel fieldCount fieldLabel eventCount entryIn toEndAnswer _then_ need
+        events-answer a t =
+            let b = section-is-fine s 0 16 2 3 r q W k in
+            let c = section-is-fine s (2 + 2 * W) 512 4 5 r′ q′ F k′ in
+            rw (b .0, b .1, c .0, c .1) t

@@ -1,2 +1,3 @@
 -- Laws of the file layer.
+pub mod Tests
 pub mod Answers

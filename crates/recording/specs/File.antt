@@ -14,7 +14,7 @@ use Rattle.recording.specs.declared.Counted.{Counted}
 use Rattle.recording.specs.declared.Counted.the-variants.{Refused as Counted-refused, Count}
 use Rattle.recording.specs.declared.Checked.{Checked}
 use Rattle.recording.specs.declared.Checked.the-variants.{Refused as Checked-refused, Fine as Checked-fine}
-use Rattle.recording.specs.Tests.{Contents, eventBytes, fieldsAt, eventsAt, allTests}
+use Rattle.recording.specs.Tests.{Contents, eventBytes, fieldsAt, eventsAt, labelSection, eventSection, eventsToEnd, allTests}
 
 -- All two-byte numbers have the low byte first.
 abbrev pub twoByte : ℕ → ℕ → ℕ
@@ -91,11 +91,6 @@ contentsIn s =
 unfoldable pub refusal : Bool → List ℕ → Fault
 refusal tables s = allTests tables (length s) (contentsIn s)
 
--- A section's answer, with its count where it is fine.
-abbrev pub counted : Fault → ℕ → Counted
-counted (Refused number place) count = Counted-refused number place
-counted Fine count = Count count
-
 abbrev pub countsIn : List ℕ → Counts
 countsIn s = record { workers = workerCount s; fields = fieldCount s; events = eventCount s }
 
@@ -103,6 +98,24 @@ countsIn s = record { workers = workerCount s; fields = fieldCount s; events = e
 abbrev pub answered : Fault → Counts → Checked
 answered (Refused number place) counts = Checked-refused number place
 answered Fine counts = Checked-fine counts
+
+-- A section's answer, with its count where it is fine.
+abbrev pub counted : Fault → ℕ → Counted
+counted (Refused number place) count = Counted-refused number place
+counted Fine count = Count count
+
+-- The parts of the check: a section of labels and the section of events, whose count stands at at, and the events with the end of the file.
+unfoldable pub labelsAnswer : List ℕ → ℕ → ℕ → ℕ → ℕ → Counted
+labelsAnswer s at limit range order =
+    counted (labelSection (length s) at (numberAt s at) (labelAt s (at + 2)) limit range order) (numberAt s at)
+
+unfoldable pub eventsAnswer : List ℕ → ℕ → ℕ → ℕ → Counted
+eventsAnswer s at W F = counted (eventSection (length s) at W F (numberAt s at) (entriesAt s (at + 2))) (numberAt s at)
+
+unfoldable pub toEndAnswer : List ℕ → ℕ → ℕ → Checked
+toEndAnswer s W F =
+    answered (eventsToEnd (length s) W F (numberAt s (eventsAt W F)) (entriesAt s (eventsAt W F + 2)))
+    (record { workers = W; fields = F; events = numberAt s (eventsAt W F) })
 
 unfoldable pub checked : List ℕ → Checked
 checked s = answered (refusal true s) (countsIn s)

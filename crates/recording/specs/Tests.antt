@@ -86,6 +86,10 @@ eventSection size at W F count entry =
 unfoldable pub endTest : ℕ → ℕ → Fault
 endTest size end = need (leb size end) 10 end
 
+-- The events, and nothing after them.
+unfoldable pub eventsToEnd : ℕ → ℕ → ℕ → ℕ → (ℕ → Entry) → Fault
+eventsToEnd size W F count entry = eventSection size (eventsAt W F) W F count entry then endTest size (fileSize W F count)
+
 -- What a file holds: worker labels, field labels, and the numbers of each event.
 pub record Contents : Type 0 where
   pub workers : ℕ
@@ -100,8 +104,7 @@ unfoldable pub fileTests : ℕ → Contents → Fault
 fileTests size c =
     labelSection size 0 (c .workers) (c .workerLabel) 16 2 3
     then labelSection size (fieldsAt (c .workers)) (c .fields) (c .fieldLabel) 512 4 5
-    then eventSection size (eventsAt (c .workers) (c .fields)) (c .workers) (c .fields) (c .events) (c .entry)
-    then endTest size (fileSize (c .workers) (c .fields) (c .events))
+    then eventsToEnd size (c .workers) (c .fields) (c .events) (c .entry)
 
 -- Test 11 comes before the file is looked at: every lent table has its full length.
 unfoldable pub allTests : Bool → ℕ → Contents → Fault

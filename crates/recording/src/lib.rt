@@ -5,8 +5,8 @@ use sorts::Worker;
 ghost use mathlib.Core.Path.{_≡_};
 ghost use Prim.Native.Nat.{_+_, _*_, _<_, _≤_};
 ghost use lib.ListN.{length, getD};
-ghost use Rattle.recording.specs.Tests.{_then_, rising, labelSection, eventTests, eventsTests, eventSection, endTest, eventsAt, fileSize};
-ghost use Rattle.recording.specs.File.{twoByte, numberAt, labelAt, entryAt, entriesAt, counted, answered, checked};
+ghost use Rattle.recording.specs.Tests.{rising, eventTests, eventsTests, eventsAt};
+ghost use Rattle.recording.specs.File.{twoByte, numberAt, labelAt, entryAt, entriesAt, labelsAnswer, eventsAnswer, toEndAnswer, checked};
 
 // What a test of the file answers.
 pub enum Fault {
@@ -80,7 +80,7 @@ fn labels(file: &[u8], at: usize, follow: usize, number: u32) -> Fault
 // A section of labels whose count stands at at.
 fn label_section(file: &[u8], at: usize, limit: u32, range: u32, order: u32) -> Counted
     requires { ⌜ at ≤ length (now file) ⌝ }
-    ensures { λ r. ⌜ r ≡ counted (labelSection (length (now (file .entry))) at (numberAt (now (file .entry)) at) (labelAt (now (file .entry)) (at + 2)) limit range order) (numberAt (now (file .entry)) at) ⌝ }
+    ensures { λ r. ⌜ r ≡ labelsAnswer (now (file .entry)) at limit range order ⌝ }
 {
     let end = file.len();
     if end - at < 2 {
@@ -153,4 +153,65 @@ fn test_events(file: &[u8], at: usize, count: usize, workers: u32, fields: u32) 
         }
     }
     Fault::Fine
+}
+
+// The section of events, whose count stands at at.
+fn event_section(file: &[u8], at: usize, workers: u32, fields: u32) -> Counted
+    requires { ⌜ at ≤ length (now file) ⌝ }
+    ensures { λ r. ⌜ r ≡ eventsAnswer (now (file .entry)) at workers fields ⌝ }
+{
+    let end = file.len();
+    if end - at < 2 {
+        return Counted::Refused(1, end);
+    }
+    let count = number_at(file, at);
+    if Event::LIMIT < count {
+        return Counted::Refused(6, at);
+    }
+    let n = count as usize;
+    if end - at - 2 < 4 * n {
+        return Counted::Refused(1, end);
+    }
+    match test_events(file, at + 2, n, workers, fields) {
+        Fault::Refused(number, place) => Counted::Refused(number, place),
+        Fault::Fine => Counted::Count(count),
+    }
+}
+
+// The events, and nothing after them.
+fn check_events(file: &[u8], workers: u32, fields: u32) -> Checked
+    requires { ⌜ (workers ≤ 16) × (fields ≤ 512) × (eventsAt workers fields ≤ length (now file)) ⌝ }
+    ensures { λ r. ⌜ r ≡ toEndAnswer (now (file .entry)) workers fields ⌝ }
+{
+    let at = 4 + 2 * (workers as usize) + 2 * (fields as usize);
+    match event_section(file, at, workers, fields) {
+        Counted::Refused(number, place) => Checked::Refused(number, place),
+        Counted::Count(events) => {
+            let last = at + 2 + 4 * (events as usize);
+            if last < file.len() {
+                return Checked::Refused(10, last);
+            }
+            Checked::Fine(Counts {
+                workers: workers,
+                fields: fields,
+                events: events,
+            })
+        }
+    }
+}
+
+// The answer to a whole file, of any length: the first test that fails, or its counts.
+pub fn check(file: &[u8]) -> Checked
+    ensures { λ r. ⌜ r ≡ checked (now (file .entry)) ⌝ }
+{
+    match label_section(file, 0, Worker::LIMIT, 2, 3) {
+        Counted::Refused(number, place) => Checked::Refused(number, place),
+        Counted::Count(workers) => {
+            let at = 2 + 2 * (workers as usize);
+            match label_section(file, at, Field::LIMIT, 4, 5) {
+                Counted::Refused(number, place) => Checked::Refused(number, place),
+                Counted::Count(fields) => check_events(file, workers, fields),
+            }
+        }
+    }
 }
