@@ -7,7 +7,7 @@ use native.Mathlib.Omega.{arith}
 use lib.Dec.{eqb, ltb, leb}
 use lib.ListN.{length, getD}
 use borrow.Author.Tests.{lt-ltb, le-ltb, le-leb, lt-leb, eq-eqb, ne-eqb, leb-true}
-use Rattle.recording.proofs.Tests.{need-fine, section-passed, counted-count, counted-refused}
+use Rattle.recording.proofs.Tests.{need-fine, and-both, section-passed, counted-count, counted-refused}
 use Rattle.recording.specs.declared.Fault.{Fault}
 use Rattle.recording.specs.declared.Fault.the-variants.{Fine, Refused}
 use Rattle.recording.specs.declared.Entry.{Entry}
@@ -206,10 +206,6 @@ module _ (s : List ℕ) (W F : ℕ) (r : Counted) (q : r ≡ eventsAnswer s (4 +
     unfolding toEndAnswer eventsToEnd endTest _then_ need
     to-end-fine m = rw (fine .0, fine .1, le-leb (length s) (6 + 2 * W + 2 * F + 4 * n) (omega arith))
 
-and-right : (a b : Bool) → a && b ≡ true → b ≡ true
-and-right true b t = t
-and-right false b t = let z : _≡_ {A = ℕ} 0 1 = cc in absurd (omega arith)
-
 -- a section of labels that answers r, refused or fine: then its count is small and its labels are there
 module _ (s : List ℕ) (at limit range order : ℕ) (r : Counted) (q : r ≡ labelsAnswer s at limit range order) where
   section-is-refused : (number place : ℕ) → r ≡ Counted-refused number place
@@ -230,7 +226,7 @@ module _ (s : List ℕ) (at limit range order : ℕ) (r : Counted) (q : r ≡ la
     unfolding labelSection
     section-few =
         let t = rw (section-is-fine .1) at (need-fine _ _ _ (section-passed _ _ _ _ _ (section-is-fine .0) .range-fine)) in
-        leb-true m limit (and-right (ltb 0 m) (leb m limit) t)
+        leb-true m limit (and-both (ltb 0 m) (leb m limit) t .1)
 
 -- the whole file: the workers answer r, and where they are fine the fields answer r′
 module _ (s : List ℕ) (r : Counted) (q : r ≡ labelsAnswer s 0 16 2 3) where

@@ -1,3 +1,4 @@
 -- Laws of the file layer.
 pub mod Tests
+pub mod WellFormed
 pub mod Answers
