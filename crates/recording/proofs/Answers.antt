@@ -5,8 +5,11 @@ use mathlib.Core.List.{List}
 use Prim.Native.Nat.{ℕ, zero, suc, _+_, _*_, _-_, _<_, _≤_}
 use native.Mathlib.Omega.{arith}
 use lib.Dec.{eqb, ltb, leb}
-use lib.ListN.{length, getD}
+use lib.ListN.{length, getD, List·getD-eq-default}
 use borrow.Author.Tests.{lt-ltb, le-ltb, le-leb, lt-leb, eq-eqb, ne-eqb, leb-true}
+use Rattle.events.specs.declared.Event.{Event}
+use Rattle.events.specs.declared.Event.the-variants.{Read, Write, Crossing}
+use Rattle.recording.proofs.Guarantee.{guarantee}
 use Rattle.recording.proofs.Tests.{need-fine, and-both, section-passed, counted-count, counted-refused}
 use Rattle.recording.specs.declared.Fault.{Fault}
 use Rattle.recording.specs.declared.Fault.the-variants.{Fine, Refused}
@@ -17,11 +20,11 @@ use Rattle.recording.specs.declared.Checked.the-variants.{Refused as Che
 use Rattle.recording.specs.declared.Counted.{Counted}
 use Rattle.recording.specs.declared.Counted.the-variants.{Refused as Counted-refused, Count}
 use Rattle.recording.specs.Tests.{need, _then_, rising, kindAllowed, fieldAllowed, eventPlace, eventTests, eventsTests, section, labelSection, eventSection, endTest, eventsToEnd, eventsAt, fileSize, fileTests, allTests}
-use Rattle.recording.specs.File.{numberAt, labelAt, entryAt, entriesAt, workerCount, fieldCount, eventCount, workerLabel, fieldLabel, entryIn, contentsIn, refusal, labelsAnswer, eventsAnswer, toEndAnswer, checked}
+use Rattle.recording.specs.File.{numberAt, labelAt, entryAt, entriesAt, workerCount, fieldCount, eventCount, workerLabel, fieldLabel, entryIn, contentsIn, refusal, labelsAnswer, eventsAnswer, toEndAnswer, checked, eventOf, eventAt, Accepted}
 
-pub number-is : (s : List ℕ) (i r : ℕ) → r ≡ getD s i 0 + 256 * getD s (i + 1) 0 → r ≡ numberAt s i
+pub number-is : (s : List ℕ) (i low high r : ℕ) → low ≡ getD s i 0 → high ≡ getD s (i + 1) 0 → r ≡ low + 256 * high → r ≡ numberAt s i
 unfolding numberAt
-number-is s i r q = q
+number-is s i low high r p q e = rw (← p, ← q) e
 
 pub label-first : (s : List ℕ) (at r : ℕ) → r ≡ numberAt s at → r ≡ labelAt s at 0
 unfolding labelAt
@@ -261,3 +264,39 @@ module _ (s : List ℕ) (r : Counted) (q : r ≡ labelsAnswer s 0 16 2 3) where
             let b = section-is-fine s 0 16 2 3 r q W k in
             let c = section-is-fine s (2 + 2 * W) 512 4 5 r′ q′ F k′ in
             rw (b .0, b .1, c .0, c .1) t
+
+-- an event's numbers as an event
+module _ (e : Entry) where
+  pub is-read : e .kind ≡ 1 → Read (record { 0 = e .worker }) (record { 0 = e .field }) ≡ eventOf e
+  unfolding eventOf
+  is-read k = rw k
+
+  pub is-write : e .kind ≡ 2 → Write (record { 0 = e .worker }) (record { 0 = e .field }) ≡ eventOf e
+  unfolding eventOf
+  is-write k = rw k
+
+  pub is-crossing : (e .kind ≡ 1 → ⊥) → (e .kind ≡ 2 → ⊥) → Crossing (record { 0 = e .worker }) ≡ eventOf e
+  unfolding eventOf
+  is-crossing a b = rw (ne-eqb (e .kind) 1 a, ne-eqb (e .kind) 2 b)
+
+-- event n of an accepted file
+module _ (s : List ℕ) (c : Counts) (n : ℕ) (ok : Accepted s c) where
+  pub event-room : n < c .events → 4 + 2 * c .workers + 2 * c .fields + 2 + 4 * n + 4 ≤ length s
+  event-room l = let g = guarantee s c ok in omega arith
+
+  pub event-is : (e : Entry) (r : Event) → e ≡ entryAt s (4 + 2 * c .workers + 2 * c .fields + 2 + 4 * n) → r ≡ eventOf e → r ≡ eventAt s n
+  unfolding eventAt entryIn entriesAt
+  event-is e r p q = rw (← ok .workers, ← ok .fields, ← p) q
+
+-- labels by number
+module _ (s : List ℕ) (n r : ℕ) where
+  pub byte-past : length s ≤ n → 0 ≡ getD s n 0
+  byte-past l = sym (List·getD-eq-default s 0 l)
+
+  pub worker-label-is : r ≡ numberAt s (2 + 2 * n) → r ≡ workerLabel s n
+  unfolding workerLabel labelAt
+  worker-label-is q = q
+
+  pub field-label-is : (W : ℕ) → W ≡ numberAt s 0 → r ≡ numberAt s (2 + 2 * W + 2 + 2 * n) → r ≡ fieldLabel s n
+  unfolding fieldLabel labelAt workerCount
+  field-label-is W p q = rw (← p) q

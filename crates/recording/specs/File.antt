@@ -1,4 +1,5 @@
 -- What the bytes of a recording file hold, and what checking them answers.
+use mathlib.Core.Path.{_≡_}
 use mathlib.Core.Bool.{Bool, true, cond}
 use mathlib.Core.List.{List, [], _∷_}
 use Prim.Native.Nat.{ℕ, zero, suc, _+_, _*_}
@@ -98,6 +99,13 @@ countsIn s = record { workers = workerCount s; fields = fieldCount s; events = e
 abbrev pub answered : Fault → Counts → Checked
 answered (Refused number place) counts = Checked-refused number place
 answered Fine counts = Checked-fine counts
+
+-- The file is accepted, and these are its counts: what a reader of its events relies on.
+pub record Accepted (s : List ℕ) (counts : Counts) : Type 0 where
+  pub fine : refusal true s ≡ Fine
+  pub workers : counts .workers ≡ workerCount s
+  pub fields : counts .fields ≡ fieldCount s
+  pub events : counts .events ≡ eventCount s
 
 -- A section's answer, with its count where it is fine.
 abbrev pub counted : Fault → ℕ → Counted

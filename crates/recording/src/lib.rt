@@ -6,7 +6,7 @@ ghost use mathlib.Core.Path.{_≡_};
 ghost use Prim.Native.Nat.{_+_, _*_, _<_, _≤_};
 ghost use lib.ListN.{length, getD};
 ghost use Rattle.recording.specs.Tests.{rising, eventTests, eventsTests, eventsAt};
-ghost use Rattle.recording.specs.File.{twoByte, numberAt, labelAt, entryAt, entriesAt, labelsAnswer, eventsAnswer, toEndAnswer, checked};
+ghost use Rattle.recording.specs.File.{twoByte, numberAt, labelAt, entryAt, entriesAt, labelsAnswer, eventsAnswer, toEndAnswer, checked, eventOf, eventAt, workerLabel, fieldLabel, Accepted};
 
 // What a test of the file answers.
 pub enum Fault {
@@ -214,4 +214,61 @@ pub fn check(file: &[u8]) -> Checked
             }
         }
     }
+}
+
+// What an event's numbers say; meant for numbers that passed the tests.
+fn event_of(e: Entry) -> Event
+    ensures { λ r. ⌜ r ≡ eventOf e ⌝ }
+{
+    let w = Worker(e.worker);
+    let f = Field(e.field);
+    if e.kind == 1 {
+        return Event::Read(w, f);
+    }
+    if e.kind == 2 {
+        return Event::Write(w, f);
+    }
+    Event::Crossing(w)
+}
+
+// Event n of a file that the check accepted with these counts.
+pub fn event_at(file: &[u8], counts: Counts, n: u32) -> Event
+    requires { ⌜ Accepted (now file) counts × (n < counts .events) ⌝ }
+    ensures { λ r. ⌜ r ≡ eventAt (now (file .entry)) n ⌝ }
+{
+    let at = 4 + 2 * (counts.workers as usize) + 2 * (counts.fields as usize);
+    event_of(entry_at(file, at + 2 + 4 * (n as usize)))
+}
+
+// Past the end stands 0.
+fn byte_at(file: &[u8], i: usize) -> u8
+    ensures { λ r. ⌜ r ≡ getD (now (file .entry)) i 0 ⌝ }
+{
+    if i < file.len() {
+        return file[i];
+    }
+    0
+}
+
+// The two-byte number at any place.
+fn any_number_at(file: &[u8], i: usize) -> u32
+    requires { ⌜ i < 1099511627776 ⌝ }
+    ensures { λ r. ⌜ (r ≡ numberAt (now (file .entry)) i) × (r < 65536) ⌝ }
+{
+    two_byte(byte_at(file, i), byte_at(file, i + 1))
+}
+
+// The label of a worker of a checked file; for a number that is no worker's, what stands where its label would.
+pub fn worker_label(file: &[u8], w: Worker) -> u32
+    ensures { λ r. ⌜ r ≡ workerLabel (now (file .entry)) (w .0) ⌝ }
+{
+    any_number_at(file, 2 + 2 * (w.0 as usize))
+}
+
+// The label of a field, in the same way.
+pub fn field_label(file: &[u8], f: Field) -> u32
+    ensures { λ r. ⌜ r ≡ fieldLabel (now (file .entry)) (f .0) ⌝ }
+{
+    let workers = any_number_at(file, 0) as usize;
+    any_number_at(file, 2 + 2 * workers + 2 + 2 * (f.0 as usize))
 }
