@@ -6,11 +6,11 @@ use Prim.Native.Nat.{ℕ, zero, suc, _+_, _*_, _-_, _<_, _≤_}
 use native.Mathlib.Omega.{arith}
 use lib.Dec.{eqb, ltb, leb}
 use lib.ListN.{length, getD, List·getD-eq-default}
-use borrow.Author.Tests.{lt-ltb, le-ltb, le-leb, lt-leb, eq-eqb, ne-eqb, leb-true}
+use borrow.Author.Tests.{lt-ltb, le-ltb, le-leb, lt-leb, eq-eqb, ne-eqb}
 use Rattle.events.specs.declared.Event.{Event}
 use Rattle.events.specs.declared.Event.the-variants.{Read, Write, Crossing}
 use Rattle.recording.proofs.Guarantee.{guarantee}
-use Rattle.recording.proofs.Tests.{need-fine, and-both, section-passed, counted-count, counted-refused}
+use Rattle.recording.proofs.Tests.{Labels, labels-good, counted-count, counted-refused}
 use Rattle.recording.specs.declared.Fault.{Fault}
 use Rattle.recording.specs.declared.Fault.the-variants.{Fine, Refused}
 use Rattle.recording.specs.declared.Entry.{Entry}
@@ -221,15 +221,14 @@ module _ (s : List ℕ) (at limit range order : ℕ) (r : Counted) (q : r ≡ la
     unfolding labelsAnswer
     section-is-fine = counted-count _ _ m (sym q ∙ k)
 
+    section-labels : Labels (length s) at (numberAt s at) (labelAt s (at + 2)) limit range order
+    section-labels = labels-good (length s) at (numberAt s at) (labelAt s (at + 2)) limit range order (section-is-fine .0)
+
     section-room : at + 2 + 2 * m ≤ length s
-    unfolding labelSection
-    section-room = rw (section-is-fine .1) at (section-passed _ _ _ _ _ (section-is-fine .0) .room)
+    section-room = rw (section-is-fine .1) at (section-labels .room)
 
     section-few : m ≤ limit
-    unfolding labelSection
-    section-few =
-        let t = rw (section-is-fine .1) at (need-fine _ _ _ (section-passed _ _ _ _ _ (section-is-fine .0) .range-fine)) in
-        leb-true m limit (and-both (ltb 0 m) (leb m limit) t .1)
+    section-few = rw (section-is-fine .1) at (section-labels .few)
 
 -- the whole file: the workers answer r, and where they are fine the fields answer r′
 module _ (s : List ℕ) (r : Counted) (q : r ≡ labelsAnswer s 0 16 2 3) where

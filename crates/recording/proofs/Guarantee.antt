@@ -1,6 +1,6 @@
 -- What the finders may know of an accepted file, and nothing else.
-use mathlib.Core.Path.{_≡_, refl, sym, _∙_, ap}
-use mathlib.Core.Bool.{Bool, true, false}
+use mathlib.Core.Path.{_≡_, refl, _∙_, ap}
+use mathlib.Core.Bool.{true}
 use mathlib.Core.List.{List, [], _∷_}
 use Prim.Native.Nat.{ℕ, zero, suc, _+_, _*_, _-_, _<_, _≤_}
 use native.Mathlib.Nat.{sub-zero}
@@ -8,14 +8,9 @@ use native.Mathlib.Omega.{arith}
 use lib.ListN.{length, drop, drop-of-length-le}
 use Rattle.events.specs.declared.Event.{Event}
 use Rattle.events.specs.Acts.{Within, EventWithin}
-use Rattle.recording.specs.declared.Fault.{Fault}
-use Rattle.recording.specs.declared.Fault.the-variants.{Fine, Refused}
 use Rattle.recording.specs.declared.Entry.{Entry}
 use Rattle.recording.specs.declared.Counts.{Counts}
-use Rattle.recording.specs.declared.Checked.{Checked}
-use Rattle.recording.specs.declared.Checked.the-variants.{Refused as Checked-refused, Fine as Checked-fine}
-use Rattle.recording.specs.Tests.{need, _then_, fileSize, allTests}
-use Rattle.recording.specs.File.{workerCount, fieldCount, eventCount, entryIn, eventOf, eventAt, eventsFrom, eventsIn, refusal, countsIn, answered, checked, Accepted}
+use Rattle.recording.specs.File.{workerCount, fieldCount, eventCount, entryIn, eventOf, eventAt, eventsFrom, eventsIn, Accepted}
 use Rattle.recording.specs.WellFormed.{Good, WellFormed}
 use Rattle.recording.specs.WellFormed.Good.{read, write, crossing}
 use Rattle.recording.proofs.WellFormed.{fine-well-formed}
@@ -94,28 +89,3 @@ guarantee s c ok =
       next = λ n l. events-next s n (eventCount s) (omega arith);
       end = rw E (events-end s (eventCount s));
     }
-
--- what the check's answer says of the file
-module _ (s : List ℕ) (r : Checked) (q : r ≡ checked s) where
-  pub fine-accepted : (c : Counts) → r ≡ Checked-fine c → Accepted s c
-  unfolding checked
-  fine-accepted c k = by (refusal true s) refl (sym k ∙ q)
-    where
-      by : (x : Fault) → refusal true s ≡ x → Checked-fine c ≡ answered x (countsIn s) → Accepted s c
-      by Fine e a =
-          let z : c ≡ countsIn s = cc in
-          record { fine = e; workers = ap (λ (d : Counts). d .workers) z; fields = ap (λ (d : Counts). d .fields) z; events = ap (λ (d : Counts). d .events) z }
-      by (Refused number place) e a = let z : _≡_ {A = ℕ} 0 1 = cc in absurd (omega arith)
-
-  pub refused-refusal : (number place : ℕ) → r ≡ Checked-refused number place → refusal true s ≡ Refused number place
-  unfolding checked
-  refused-refusal number place k = by (refusal true s) (sym k ∙ q)
-    where
-      by : (x : Fault) → Checked-refused number place ≡ answered x (countsIn s) → x ≡ Refused number place
-      by Fine a = let z : _≡_ {A = ℕ} 0 1 = cc in absurd (omega arith)
-      by (Refused m p) a = cc
-
--- Test 11 comes before the file is looked at.
-pub short-table : (s : List ℕ) → refusal false s ≡ Refused 11 0
-unfolding refusal allTests _then_ need
-short-table s = refl

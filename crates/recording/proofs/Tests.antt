@@ -1,7 +1,7 @@
 -- Laws of tests in their order: what has passed once the whole is fine.
 use mathlib.Core.Path.{_≡_, refl}
 use mathlib.Core.Bool.{Bool, true, false, _&&_}
-use Prim.Native.Nat.{ℕ, zero, suc, _+_, _*_, _<_, _≤_}
+use Prim.Native.Nat.{ℕ, zero, suc, _+_, _*_, _-_, _<_, _≤_}
 use native.Mathlib.Omega.{arith}
 use lib.Dec.{ltb, leb}
 use borrow.Author.Tests.{leb-true, le-leb, ltb-true, ltb-false, lt-ltb}
@@ -9,7 +9,7 @@ use Rattle.recording.specs.declared.Fault.{Fault}
 use Rattle.recording.specs.declared.Fault.the-variants.{Fine, Refused}
 use Rattle.recording.specs.declared.Counted.{Counted}
 use Rattle.recording.specs.declared.Counted.the-variants.{Refused as Counted-refused, Count}
-use Rattle.recording.specs.Tests.{need, _then_, rising, section}
+use Rattle.recording.specs.Tests.{need, _then_, rising, section, labelSection}
 use Rattle.recording.specs.File.{counted}
 
 pub need-fine : (t : Bool) (number place : ℕ) → need t number place ≡ Fine → t ≡ true
@@ -92,3 +92,35 @@ fine-rising label number at n zero up = refl
 fine-rising label number at n (suc k) up =
     fine-then _ _ (fine-need _ _ _ (lt-ltb (label n) (label (n + 1)) (up n (omega arith) (omega arith))))
     (fine-rising label number at (n + 1) k (λ j l m. up j (omega arith) (omega arith)))
+
+-- a section of labels is fine exactly if its count is in range and its labels are there and rise
+module _ (size at count : ℕ) (label : ℕ → ℕ) (limit range order : ℕ) where
+  pub record Labels : Type 0 where
+    pub some : 1 ≤ count
+    pub few : count ≤ limit
+    pub room : at + 2 + 2 * count ≤ size
+    pub rise : (n : ℕ) → n + 1 < count → label n < label (n + 1)
+
+  pub labels-good : labelSection size at count label limit range order ≡ Fine → Labels
+  unfolding labelSection
+  labels-good t =
+      let p = section-passed size at _ _ _ t in
+      let b = and-both (ltb 0 count) (leb count limit) (need-fine _ _ _ (p .range-fine)) in
+      let some = ltb-true 0 count (b .0) in
+      record {
+        some = omega arith;
+        few = leb-true count limit (b .1);
+        room = p .room;
+        rise = λ n l. rising-fine label order (at + 2) 0 (count - 1) (p .items-fine) n (omega arith) (omega arith);
+      }
+
+  pub good-labels : Labels → labelSection size at count label limit range order ≡ Fine
+  unfolding labelSection
+  good-labels g =
+      let some = g .some in
+      passed-section size at _ _ _
+      (record {
+        range-fine = fine-need _ _ _ (rw (lt-ltb 0 count (omega arith), le-leb count limit (g .few)));
+        room = g .room;
+        items-fine = fine-rising label order (at + 2) 0 (count - 1) (λ n l m. g .rise n (omega arith));
+      })

@@ -13,7 +13,7 @@ use Rattle.recording.specs.Tests.{need, _then_, rising, kindAllowed, fie
 use Rattle.recording.specs.File.{workerCount, fieldCount, eventCount, workerLabel, fieldLabel, entryIn, contentsIn, refusal}
 use Rattle.recording.specs.WellFormed.{Good, WellFormed}
 use Rattle.recording.specs.WellFormed.Good.{read, write, crossing}
-use Rattle.recording.proofs.Tests.{need-fine, fine-need, then-fine, fine-then, first-or-later, and-both, Passed, section-passed, passed-section, rising-fine, fine-rising}
+use Rattle.recording.proofs.Tests.{need-fine, fine-need, then-fine, fine-then, first-or-later, and-both, section-passed, passed-section, Labels, labels-good, good-labels}
 
 -- an event
 module _ (W F : ℕ) (e : Entry) where
@@ -59,38 +59,6 @@ module _ (W F : ℕ) (entry : ℕ → Entry) (at : ℕ) where
   good-events n (suc k) all =
       fine-then _ _ (good-event W F (entry n) (at + 4 * n) (all n (omega arith) (omega arith)))
       (good-events (n + 1) k (λ j l m. all j (omega arith) (omega arith)))
-
--- a section of labels
-module _ (size at count : ℕ) (label : ℕ → ℕ) (limit range order : ℕ) where
-  record Labels : Type 0 where
-    some : 1 ≤ count
-    few : count ≤ limit
-    room : at + 2 + 2 * count ≤ size
-    rise : (n : ℕ) → n + 1 < count → label n < label (n + 1)
-
-  labels-good : labelSection size at count label limit range order ≡ Fine → Labels
-  unfolding labelSection
-  labels-good t =
-      let p = section-passed size at _ _ _ t in
-      let b = and-both (ltb 0 count) (leb count limit) (need-fine _ _ _ (p .range-fine)) in
-      let some = ltb-true 0 count (b .0) in
-      record {
-        some = omega arith;
-        few = leb-true count limit (b .1);
-        room = p .room;
-        rise = λ n l. rising-fine label order (at + 2) 0 (count - 1) (p .items-fine) n (omega arith) (omega arith);
-      }
-
-  good-labels : Labels → labelSection size at count label limit range order ≡ Fine
-  unfolding labelSection
-  good-labels g =
-      let some = g .some in
-      passed-section size at _ _ _
-      (record {
-        range-fine = fine-need _ _ _ (rw (lt-ltb 0 count (omega arith), le-leb count limit (g .few)));
-        room = g .room;
-        items-fine = fine-rising label order (at + 2) 0 (count - 1) (λ n l m. g .rise n (omega arith));
-      })
 
 -- the whole file
 module _ (s : List ℕ) where
