@@ -1,0 +1,301 @@
+-- What each way through the functions answers.
+use mathlib.Core.Path.{_≡_, refl, sym, _∙_, ap}
+use mathlib.Core.Bool.{Bool, true, false, cond, _&&_, _||_, and-false}
+use mathlib.Core.List.{List}
+use Prim.Native.Nat.{ℕ, zero, suc, _+_, _*_, _-_, _<_, _≤_}
+use native.Mathlib.Omega.{arith}
+use lib.Dec.{eqb, ltb, leb}
+use lib.ListN.{length, getD, List·getD-eq-default}
+use borrow.Author.Tests.{lt-ltb, le-ltb, le-leb, lt-leb, eq-eqb, ne-eqb}
+use Rattle.events.specs.declared.Event.{Event}
+use Rattle.events.specs.declared.Event.the-variants.{Read, Write, Crossing}
+use Rattle.recording.proofs.Guarantee.{guarantee}
+use Rattle.recording.proofs.Tests.{Labels, labels-good, counted-count, counted-refused}
+use Rattle.recording.specs.declared.Fault.{Fault}
+use Rattle.recording.specs.declared.Fault.the-variants.{Fine, Refused}
+use Rattle.recording.specs.declared.Entry.{Entry}
+use Rattle.recording.specs.declared.Counts.{Counts}
+use Rattle.recording.specs.declared.Checked.{Checked}
+use Rattle.recording.specs.declared.Checked.the-variants.{Refused as Checked-refused, Fine as Checked-fine}
+use Rattle.recording.specs.declared.Counted.{Counted}
+use Rattle.recording.specs.declared.Counted.the-variants.{Refused as Counted-refused, Count}
+use Rattle.recording.specs.Tests.{need, _then_, rising, kindAllowed, fieldAllowed, eventPlace, eventTests, eventsTests, section, labelSection, eventSection, endTest, eventsToEnd, eventsAt, fileSize, fileTests, allTests}
+use Rattle.recording.specs.File.{numberAt, labelAt, entryAt, entriesAt, workerCount, fieldCount, eventCount, workerLabel, fieldLabel, entryIn, contentsIn, refusal, labelsAnswer, eventsAnswer, toEndAnswer, checked, eventOf, eventAt, Accepted}
+
+pub number-is : (s : List ℕ) (i low high r : ℕ) → low ≡ getD s i 0 → high ≡ getD s (i + 1) 0 → r ≡ low + 256 * high → r ≡ numberAt s i
+unfolding numberAt
+number-is s i low high r p q e = rw (← p, ← q) e
+
+pub label-first : (s : List ℕ) (at r : ℕ) → r ≡ numberAt s at → r ≡ labelAt s at 0
+unfolding labelAt
+label-first s at r q = let z : at + 0 ≡ at = omega arith in rw z q
+
+-- labels looked at up to label n, follow - n of them to come, which answer x
+module _ (s : List ℕ) (at number follow n : ℕ) (x : Fault) (inv : rising (labelAt s at) number at n (follow - n) ≡ x) where
+  left : n < follow → follow - n ≡ suc (follow - (n + 1))
+  left l = omega arith
+
+  pub labels-fall : (before label : ℕ) → n < follow → before ≡ labelAt s at n → label ≡ numberAt s (at + 2 * (n + 1)) → label ≤ before
+      → Refused number (at + 2 * (n + 1)) ≡ x
+  unfolding rising labelAt _then_ need
+  labels-fall before label l q r m = rw (left l, le-ltb (labelAt s at n) (labelAt s at (n + 1)) (omega arith)) at inv
+
+  pub labels-rise : (before label : ℕ) → n < follow → before ≡ labelAt s at n → label ≡ numberAt s (at + 2 * (n + 1)) → before < label
+      → rising (labelAt s at) number at (n + 1) (follow - (n + 1)) ≡ x
+  unfolding rising labelAt _then_ need
+  labels-rise before label l q r m = rw (left l, lt-ltb (labelAt s at n) (labelAt s at (n + 1)) (omega arith)) at inv
+
+  pub labels-end : follow ≤ n → Fine ≡ x
+  unfolding rising
+  labels-end l = let q : follow - n ≡ 0 = omega arith in rw q at inv
+
+pub label-next : (s : List ℕ) (at n r : ℕ) → r ≡ numberAt s (at + 2 * (n + 1)) → r ≡ labelAt s at (n + 1)
+unfolding labelAt
+label-next s at n r q = q
+
+pub entry-is : (s : List ℕ) (i kind worker field : ℕ) → kind ≡ getD s i 0 → worker ≡ getD s (i + 1) 0 → field ≡ numberAt s (i + 2)
+    → _≡_ {A = Entry} (record { kind = kind; worker = worker; field = field }) (entryAt s i)
+unfolding entryAt
+entry-is s i kind worker field p q r = rw (p, q, r)
+
+kind-known : (kind : ℕ) → (kind ≡ 0 → ⊥) → kind ≤ 3 → kindAllowed kind ≡ true
+unfolding kindAllowed
+kind-known zero z l = absurd (z refl)
+kind-known (suc zero) z l = refl
+kind-known (suc (suc zero)) z l = refl
+kind-known (suc (suc (suc zero))) z l = refl
+kind-known (suc (suc (suc (suc kind)))) z l = absurd (omega arith)
+
+-- an event that starts at start, test by test
+module _ (W F start : ℕ) (e : Entry) where
+  pub kind-zero : e .kind ≡ 0 → Refused 7 start ≡ eventTests W F e start
+  unfolding eventTests kindAllowed eventPlace _then_ need
+  kind-zero z = rw z
+
+  pub kind-over : 3 < e .kind → Refused 7 start ≡ eventTests W F e start
+  unfolding eventTests kindAllowed eventPlace _then_ need
+  kind-over l = rw (ne-eqb (e .kind) 1 (λ q. omega arith), ne-eqb (e .kind) 2 (λ q. omega arith), ne-eqb (e .kind) 3 (λ q. omega arith))
+
+  module _ (z : e .kind ≡ 0 → ⊥) (l : e .kind ≤ 3) where
+    pub worker-over : W ≤ e .worker → Refused 8 start ≡ eventTests W F e start
+    unfolding eventTests eventPlace _then_ need
+    worker-over a = rw (kind-known (e .kind) z l, le-ltb (e .worker) W a)
+
+    module _ (a : e .worker < W) where
+      pub crossing-fine : e .kind ≡ 3 → e .field ≡ 0 → Fine ≡ eventTests W F e start
+      unfolding eventTests fieldAllowed _then_ need
+      crossing-fine k f = rw (kind-known (e .kind) z l, lt-ltb (e .worker) W a, k, f)
+
+      pub crossing-field : e .kind ≡ 3 → (e .field ≡ 0 → ⊥) → Refused 9 start ≡ eventTests W F e start
+      unfolding eventTests eventPlace fieldAllowed _then_ need
+      crossing-field k f = rw (kind-known (e .kind) z l, lt-ltb (e .worker) W a, k, ne-eqb (e .field) 0 f)
+
+      pub access-fine : (e .kind ≡ 3 → ⊥) → e .field < F → Fine ≡ eventTests W F e start
+      unfolding eventTests fieldAllowed _then_ need
+      access-fine k f = rw (kind-known (e .kind) z l, lt-ltb (e .worker) W a, ne-eqb (e .kind) 3 k, lt-ltb (e .field) F f)
+
+      pub access-field : (e .kind ≡ 3 → ⊥) → F ≤ e .field → Refused 9 start ≡ eventTests W F e start
+      unfolding eventTests eventPlace fieldAllowed _then_ need
+      access-field k f = rw (kind-known (e .kind) z l, lt-ltb (e .worker) W a, ne-eqb (e .kind) 3 k, le-ltb (e .field) F f)
+
+-- events looked at before event n, count - n of them to come, which answer x
+module _ (s : List ℕ) (at W F count n : ℕ) (x : Fault) (inv : eventsTests W F (entriesAt s at) at n (count - n) ≡ x) where
+  to-come : n < count → count - n ≡ suc (count - (n + 1))
+  to-come l = omega arith
+
+  module _ (e : Entry) (r : Fault) (l : n < count) (q : e ≡ entryAt s (at + 4 * n)) (t : r ≡ eventTests W F e (at + 4 * n)) where
+    pub events-refused : (number place : ℕ) → r ≡ Refused number place → Refused number place ≡ x
+    unfolding eventsTests entriesAt _then_
+    events-refused number place k = rw (to-come l, ← q, ← t, k) at inv
+
+    pub events-next : r ≡ Fine → eventsTests W F (entriesAt s at) at (n + 1) (count - (n + 1)) ≡ x
+    unfolding eventsTests entriesAt _then_
+    events-next k = rw (to-come l, ← q, ← t, k) at inv
+
+  pub events-end : count ≤ n → Fine ≡ x
+  unfolding eventsTests
+  events-end l = let q : count - n ≡ 0 = omega arith in rw q at inv
+
+-- a section of labels, test by test
+module _ (s : List ℕ) (at limit range order : ℕ) where
+  pub section-short : length s - at < 2 → at ≤ length s
+      → Counted-refused 1 (length s) ≡ labelsAnswer s at limit range order
+  unfolding labelsAnswer labelSection section _then_ need
+  section-short l _ = rw (lt-leb (at + 2) (length s) (omega arith))
+
+  module _ (n : ℕ) (a : 2 ≤ length s - at) (q : n ≡ numberAt s at) where
+    here : leb (at + 2) (length s) ≡ true
+    here = le-leb (at + 2) (length s) (omega arith)
+
+    pub section-zero : n ≡ 0
+        → Counted-refused range at ≡ labelsAnswer s at limit range order
+    unfolding labelsAnswer labelSection section _then_ need
+    section-zero z = rw (here, ← q, z)
+
+    pub section-over : (n ≡ 0 → ⊥) → limit < n
+        → Counted-refused range at ≡ labelsAnswer s at limit range order
+    unfolding labelsAnswer labelSection section _then_ need
+    section-over _ z = simp (here, ← q, lt-leb n limit z, and-false)
+
+    module _ (z : n ≡ 0 → ⊥) (y : n ≤ limit) where
+      pub section-cut : length s - at - 2 < 2 * n
+          → Counted-refused 1 (length s) ≡ labelsAnswer s at limit range order
+      unfolding labelsAnswer labelSection section _then_ need
+      section-cut l = rw (here, ← q, lt-ltb 0 n (omega arith), le-leb n limit y, lt-leb (at + 2 + 2 * n) (length s) (omega arith))
+
+      module _ (r : Fault) (l : 2 * n ≤ length s - at - 2) (k : r ≡ rising (labelAt s (at + 2)) order (at + 2) 0 (n - 1)) where
+        pub section-order : (number place : ℕ) → r ≡ Refused number place
+            → Counted-refused number place ≡ labelsAnswer s at limit range order
+        unfolding labelsAnswer labelSection section _then_ need
+        section-order number place t =
+            rw (here, ← q, lt-ltb 0 n (omega arith), le-leb n limit y, le-leb (at + 2 + 2 * n) (length s) (omega arith), ← k, t)
+
+        pub section-fine : r ≡ Fine
+            → Count n ≡ labelsAnswer s at limit range order
+        unfolding labelsAnswer labelSection section _then_ need
+        section-fine t =
+            rw (here, ← q, lt-ltb 0 n (omega arith), le-leb n limit y, le-leb (at + 2 + 2 * n) (length s) (omega arith), ← k, t)
+
+-- the section of events, test by test
+module _ (s : List ℕ) (at W F : ℕ) where
+  pub events-short : length s - at < 2 → at ≤ length s
+      → Counted-refused 1 (length s) ≡ eventsAnswer s at W F
+  unfolding eventsAnswer eventSection section _then_ need
+  events-short l _ = rw (lt-leb (at + 2) (length s) (omega arith))
+
+  module _ (n : ℕ) (a : 2 ≤ length s - at) (q : n ≡ numberAt s at) where
+    count-here : leb (at + 2) (length s) ≡ true
+    count-here = le-leb (at + 2) (length s) (omega arith)
+
+    pub events-over : 16000 < n → Counted-refused 6 at ≡ eventsAnswer s at W F
+    unfolding eventsAnswer eventSection section _then_ need
+    events-over z = rw (count-here, ← q, lt-leb n 16000 z)
+
+    module _ (y : n ≤ 16000) where
+      pub events-cut : length s - at - 2 < 4 * n
+          → Counted-refused 1 (length s) ≡ eventsAnswer s at W F
+      unfolding eventsAnswer eventSection section _then_ need
+      events-cut l = rw (count-here, ← q, le-leb n 16000 y, lt-leb (at + 2 + 4 * n) (length s) (omega arith))
+
+      module _ (r : Fault) (l : 4 * n ≤ length s - at - 2) (k : r ≡ eventsTests W F (entriesAt s (at + 2)) (at + 2) 0 n) where
+        pub event-refused : (number place : ℕ) → r ≡ Refused number place
+            → Counted-refused number place ≡ eventsAnswer s at W F
+        unfolding eventsAnswer eventSection section _then_ need
+        event-refused number place t = rw (count-here, ← q, le-leb n 16000 y, le-leb (at + 2 + 4 * n) (length s) (omega arith), ← k, t)
+
+        pub events-fine : r ≡ Fine → Count n ≡ eventsAnswer s at W F
+        unfolding eventsAnswer eventSection section _then_ need
+        events-fine t = rw (count-here, ← q, le-leb n 16000 y, le-leb (at + 2 + 4 * n) (length s) (omega arith), ← k, t)
+
+-- from the event count on: the events answer r, and then the end
+module _ (s : List ℕ) (W F : ℕ) (r : Counted) (q : r ≡ eventsAnswer s (4 + 2 * W + 2 * F) W F) where
+  pub to-end-refused : (number place : ℕ) → r ≡ Counted-refused number place → Checked-refused number place ≡ toEndAnswer s W F
+  unfolding toEndAnswer eventsAnswer eventsToEnd _then_
+  to-end-refused number place k =
+      rw (counted-refused (eventSection (length s) (eventsAt W F) W F (numberAt s (eventsAt W F)) (entriesAt s (eventsAt W F + 2))) _ number place (sym q ∙ k))
+
+  module _ (n : ℕ) (k : r ≡ Count n) where
+    fine : (eventSection (length s) (eventsAt W F) W F (numberAt s (eventsAt W F)) (entriesAt s (eventsAt W F + 2)) ≡ Fine) × (numberAt s (eventsAt W F) ≡ n)
+    unfolding eventsAnswer
+    fine = counted-count _ _ n (sym q ∙ k)
+
+    pub bytes-after : 4 + 2 * W + 2 * F + 2 + 4 * n < length s → Checked-refused 10 (4 + 2 * W + 2 * F + 2 + 4 * n) ≡ toEndAnswer s W F
+    unfolding toEndAnswer eventsToEnd endTest _then_ need
+    bytes-after m =
+        let z : 4 + 2 * W + 2 * F + 2 + 4 * n ≡ 6 + 2 * W + 2 * F + 4 * n = omega arith in
+        rw (fine .0, fine .1, z, lt-leb (length s) (6 + 2 * W + 2 * F + 4 * n) (omega arith))
+
+    pub to-end-fine : length s ≤ 4 + 2 * W + 2 * F + 2 + 4 * n → Checked-fine (record { workers = W; fields = F; events = n }) ≡ toEndAnswer s W F
+    unfolding toEndAnswer eventsToEnd endTest _then_ need
+    to-end-fine m = rw (fine .0, fine .1, le-leb (length s) (6 + 2 * W + 2 * F + 4 * n) (omega arith))
+
+-- a section of labels that answers r, refused or fine: then its count is small and its labels are there
+module _ (s : List ℕ) (at limit range order : ℕ) (r : Counted) (q : r ≡ labelsAnswer s at limit range order) where
+  section-is-refused : (number place : ℕ) → r ≡ Counted-refused number place
+      → labelSection (length s) at (numberAt s at) (labelAt s (at + 2)) limit range order ≡ Refused number place
+  unfolding labelsAnswer
+  section-is-refused number place k = counted-refused _ _ number place (sym q ∙ k)
+
+  module _ (m : ℕ) (k : r ≡ Count m) where
+    section-is-fine : (labelSection (length s) at (numberAt s at) (labelAt s (at + 2)) limit range order ≡ Fine) × (numberAt s at ≡ m)
+    unfolding labelsAnswer
+    section-is-fine = counted-count _ _ m (sym q ∙ k)
+
+    section-labels : Labels (length s) at (numberAt s at) (labelAt s (at + 2)) limit range order
+    section-labels = labels-good (length s) at (numberAt s at) (labelAt s (at + 2)) limit range order (section-is-fine .0)
+
+    section-room : at + 2 + 2 * m ≤ length s
+    section-room = rw (section-is-fine .1) at (section-labels .room)
+
+    section-few : m ≤ limit
+    section-few = rw (section-is-fine .1) at (section-labels .few)
+
+-- the whole file: the workers answer r, and where they are fine the fields answer r′
+module _ (s : List ℕ) (r : Counted) (q : r ≡ labelsAnswer s 0 16 2 3) where
+  pub workers-refused : (number place : ℕ) → r ≡ Counted-refused number place → Checked-refused number place ≡ checked s
+  unfolding checked refusal allTests fileTests contentsIn workerCount workerLabel _then_ need
+  workers-refused number place k = rw (section-is-refused s 0 16 2 3 r q number place k)
+
+  module _ (W : ℕ) (k : r ≡ Count W) where
+    pub workers-room : 2 + 2 * W ≤ length s
+    workers-room = section-room s 0 16 2 3 r q W k
+
+    pub workers-few : W ≤ 16
+    workers-few = section-few s 0 16 2 3 r q W k
+
+    module _ (r′ : Counted) (q′ : r′ ≡ labelsAnswer s (2 + 2 * W) 512 4 5) where
+      pub fields-refused : (number place : ℕ) → r′ ≡ Counted-refused number place → Checked-refused number place ≡ checked s
+      unfolding checked refusal allTests fileTests contentsIn workerCount workerLabel fieldCount fieldLabel _then_ need
+      fields-refused number place k′ =
+          let a = section-is-fine s 0 16 2 3 r q W k in
+          rw (a .0, a .1, section-is-refused s (2 + 2 * W) 512 4 5 r′ q′ number place k′)
+
+      module _ (F : ℕ) (k′ : r′ ≡ Count F) where
+        pub fields-few : F ≤ 512
+        fields-few = section-few s (2 + 2 * W) 512 4 5 r′ q′ F k′
+
+        pub fields-room : 4 + 2 * W + 2 * F ≤ length s
+        fields-room = let z = section-room s (2 + 2 * W) 512 4 5 r′ q′ F k′ in omega arith
+
+        pub events-answer : (a : Checked) → a ≡ toEndAnswer s W F → a ≡ checked s
+        unfolding checked refusal allTests fileTests contentsIn workerCount workerLabel fieldCount fieldLabel eventCount entryIn toEndAnswer _then_ need
+        events-answer a t =
+            let b = section-is-fine s 0 16 2 3 r q W k in
+            let c = section-is-fine s (2 + 2 * W) 512 4 5 r′ q′ F k′ in
+            rw (b .0, b .1, c .0, c .1) t
+
+-- an event's numbers as an event
+module _ (e : Entry) where
+  pub is-read : e .kind ≡ 1 → Read (record { 0 = e .worker }) (record { 0 = e .field }) ≡ eventOf e
+  unfolding eventOf
+  is-read k = rw k
+
+  pub is-write : e .kind ≡ 2 → Write (record { 0 = e .worker }) (record { 0 = e .field }) ≡ eventOf e
+  unfolding eventOf
+  is-write k = rw k
+
+  pub is-crossing : (e .kind ≡ 1 → ⊥) → (e .kind ≡ 2 → ⊥) → Crossing (record { 0 = e .worker }) ≡ eventOf e
+  unfolding eventOf
+  is-crossing a b = rw (ne-eqb (e .kind) 1 a, ne-eqb (e .kind) 2 b)
+
+-- event n of an accepted file
+module _ (s : List ℕ) (c : Counts) (n : ℕ) (ok : Accepted s c) where
+  pub event-room : n < c .events → 4 + 2 * c .workers + 2 * c .fields + 2 + 4 * n + 4 ≤ length s
+  event-room l = let g = guarantee s c ok in omega arith
+
+  pub event-is : (e : Entry) (r : Event) → e ≡ entryAt s (4 + 2 * c .workers + 2 * c .fields + 2 + 4 * n) → r ≡ eventOf e → r ≡ eventAt s n
+  unfolding eventAt entryIn entriesAt
+  event-is e r p q = rw (← ok .workers, ← ok .fields, ← p) q
+
+-- labels by number
+module _ (s : List ℕ) (n r : ℕ) where
+  pub byte-past : length s ≤ n → 0 ≡ getD s n 0
+  byte-past l = sym (List·getD-eq-default s 0 l)
+
+  pub worker-label-is : r ≡ numberAt s (2 + 2 * n) → r ≡ workerLabel s n
+  unfolding workerLabel labelAt
+  worker-label-is q = q
+
+  pub field-label-is : (W : ℕ) → W ≡ numberAt s 0 → r ≡ numberAt s (2 + 2 * W + 2 + 2 * n) → r ≡ fieldLabel s n
+  unfolding fieldLabel labelAt workerCount
+  field-label-is W p q = rw (← p) q

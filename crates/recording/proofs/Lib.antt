@@ -1,0 +1,7 @@
+-- Laws of the file layer.
+pub mod Tests
+pub mod WellFormed
+pub mod Acceptance
+pub mod Guarantee
+pub mod Longer
+pub mod Answers

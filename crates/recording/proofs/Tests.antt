@@ -1,0 +1,126 @@
+-- Laws of tests in their order: what has passed once the whole is fine.
+use mathlib.Core.Path.{_≡_, refl}
+use mathlib.Core.Bool.{Bool, true, false, _&&_}
+use Prim.Native.Nat.{ℕ, zero, suc, _+_, _*_, _-_, _<_, _≤_}
+use native.Mathlib.Omega.{arith}
+use lib.Dec.{ltb, leb}
+use borrow.Author.Tests.{leb-true, le-leb, ltb-true, ltb-false, lt-ltb}
+use Rattle.recording.specs.declared.Fault.{Fault}
+use Rattle.recording.specs.declared.Fault.the-variants.{Fine, Refused}
+use Rattle.recording.specs.declared.Counted.{Counted}
+use Rattle.recording.specs.declared.Counted.the-variants.{Refused as Counted-refused, Count}
+use Rattle.recording.specs.Tests.{need, _then_, rising, section, labelSection}
+use Rattle.recording.specs.File.{counted}
+
+pub need-fine : (t : Bool) (number place : ℕ) → need t number place ≡ Fine → t ≡ true
+unfolding need
+need-fine true number place e = refl
+need-fine false number place e = let z : _≡_ {A = ℕ} 0 1 = cc in absurd (omega arith)
+
+pub then-fine : (a b : Fault) → (a then b) ≡ Fine → (a ≡ Fine) × (b ≡ Fine)
+unfolding _then_
+then-fine Fine b e = (refl, e)
+then-fine (Refused number place) b e = let z : _≡_ {A = ℕ} 0 1 = cc in absurd (omega arith)
+
+pub and-both : (a b : Bool) → a && b ≡ true → (a ≡ true) × (b ≡ true)
+and-both true b t = (refl, t)
+and-both false b t = let z : _≡_ {A = ℕ} 0 1 = cc in absurd (omega arith)
+
+-- what a section that is fine has passed
+pub record Passed (size at : ℕ) (range : Fault) (bytes : ℕ) (items : Fault) : Type 0 where
+  pub range-fine : range ≡ Fine
+  pub room : at + 2 + bytes ≤ size
+  pub items-fine : items ≡ Fine
+
+pub section-passed : (size at : ℕ) (range : Fault) (bytes : ℕ) (items : Fault) → section size at range bytes items ≡ Fine → Passed size at range bytes items
+unfolding section
+section-passed size at range bytes items e =
+    let a = then-fine (need (leb (at + 2) size) 1 size) _ e in
+    let b = then-fine range _ (a .1) in
+    let c = then-fine (need (leb (at + 2 + bytes) size) 1 size) items (b .1) in
+    record {
+      range-fine = b .0;
+      room = leb-true (at + 2 + bytes) size (need-fine _ _ _ (c .0));
+      items-fine = c .1;
+    }
+
+pub counted-count : (x : Fault) (n m : ℕ) → counted x n ≡ Count m → (x ≡ Fine) × (n ≡ m)
+counted-count Fine n m e = (refl, cc)
+counted-count (Refused number place) n m e = let z : _≡_ {A = ℕ} 0 1 = cc in absurd (omega arith)
+
+pub counted-refused : (x : Fault) (n number place : ℕ) → counted x n ≡ Counted-refused number place → x ≡ Refused number place
+counted-refused Fine n number place e = let z : _≡_ {A = ℕ} 0 1 = cc in absurd (omega arith)
+counted-refused (Refused a b) n number place e = cc
+
+pub fine-need : (t : Bool) (number place : ℕ) → t ≡ true → need t number place ≡ Fine
+unfolding need
+fine-need t number place e = rw e
+
+pub fine-then : (a b : Fault) → a ≡ Fine → b ≡ Fine → (a then b) ≡ Fine
+unfolding _then_
+fine-then a b p q = rw p q
+
+pub passed-section : (size at : ℕ) (range : Fault) (bytes : ℕ) (items : Fault) → Passed size at range bytes items → section size at range bytes items ≡ Fine
+unfolding section
+passed-section size at range bytes items p =
+    let l = p .room in
+    fine-then _ _ (fine-need (leb (at + 2) size) _ _ (le-leb (at + 2) size (omega arith)))
+    (fine-then range _ (p .range-fine)
+    (fine-then _ items (fine-need (leb (at + 2 + bytes) size) _ _ (le-leb (at + 2 + bytes) size l)) (p .items-fine)))
+
+-- a number is the first of some, or comes later
+pub first-or-later : {P : Type 0} (n j : ℕ) → n ≤ j → (n ≡ j → P) → (n + 1 ≤ j → P) → P
+first-or-later {P} n j l here later = by (ltb n j) refl
+  where
+    by : (t : Bool) → ltb n j ≡ t → P
+    by true e = let m = ltb-true n j e in later (omega arith)
+    by false e = let m = ltb-false n j e in here (omega arith)
+
+-- labels rise exactly if each is below the next
+pub rising-fine : (label : ℕ → ℕ) (number at n k : ℕ) → rising label number at n k ≡ Fine → (j : ℕ) → n ≤ j → j < n + k → label j < label (j + 1)
+unfolding rising
+rising-fine label number at n zero e j l m = absurd (omega arith)
+rising-fine label number at n (suc k) e j l m =
+    let a = then-fine (need (ltb (label n) (label (n + 1))) number (at + 2 * (n + 1))) (rising label number at (n + 1) k) e in
+    first-or-later n j l
+    (λ q. rw q at (ltb-true (label n) (label (n + 1)) (need-fine _ _ _ (a .0))))
+    (λ p. rising-fine label number at (n + 1) k (a .1) j p (omega arith))
+
+pub fine-rising : (label : ℕ → ℕ) (number at n k : ℕ) → ((j : ℕ) → n ≤ j → j < n + k → label j < label (j + 1)) → rising label number at n k ≡ Fine
+unfolding rising
+fine-rising label number at n zero up = refl
+fine-rising label number at n (suc k) up =
+    fine-then _ _ (fine-need _ _ _ (lt-ltb (label n) (label (n + 1)) (up n (omega arith) (omega arith))))
+    (fine-rising label number at (n + 1) k (λ j l m. up j (omega arith) (omega arith)))
+
+-- a section of labels is fine exactly if its count is in range and its labels are there and rise
+module _ (size at count : ℕ) (label : ℕ → ℕ) (limit range order : ℕ) where
+  pub record Labels : Type 0 where
+    pub some : 1 ≤ count
+    pub few : count ≤ limit
+    pub room : at + 2 + 2 * count ≤ size
+    pub rise : (n : ℕ) → n + 1 < count → label n < label (n + 1)
+
+  pub labels-good : labelSection size at count label limit range order ≡ Fine → Labels
+  unfolding labelSection
+  labels-good t =
+      let p = section-passed size at _ _ _ t in
+      let b = and-both (ltb 0 count) (leb count limit) (need-fine _ _ _ (p .range-fine)) in
+      let some = ltb-true 0 count (b .0) in
+      record {
+        some = omega arith;
+        few = leb-true count limit (b .1);
+        room = p .room;
+        rise = λ n l. rising-fine label order (at + 2) 0 (count - 1) (p .items-fine) n (omega arith) (omega arith);
+      }
+
+  pub good-labels : Labels → labelSection size at count label limit range order ≡ Fine
+  unfolding labelSection
+  good-labels g =
+      let some = g .some in
+      passed-section size at _ _ _
+      (record {
+        range-fine = fine-need _ _ _ (rw (lt-ltb 0 count (omega arith), le-leb count limit (g .few)));
+        room = g .room;
+        items-fine = fine-rising label order (at + 2) 0 (count - 1) (λ n l m. g .rise n (omega arith));
+      })

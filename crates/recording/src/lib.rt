@@ -1,0 +1,274 @@
+// The file of a recording: bytes to labels and events, refused by the first test that fails.
+use events::Event;
+use sorts::Field;
+use sorts::Worker;
+ghost use mathlib.Core.Path.{_≡_};
+ghost use Prim.Native.Nat.{_+_, _*_, _<_, _≤_};
+ghost use lib.ListN.{length, getD};
+ghost use Rattle.recording.specs.Tests.{rising, eventTests, eventsTests, eventsAt};
+ghost use Rattle.recording.specs.File.{twoByte, numberAt, labelAt, entryAt, entriesAt, labelsAnswer, eventsAnswer, toEndAnswer, checked, eventOf, eventAt, workerLabel, fieldLabel, Accepted};
+
+// What a test of the file answers.
+pub enum Fault {
+    Fine,
+    // Number and place.
+    Refused(u32, usize),
+}
+
+// An event as the file gives it: three numbers, not tested yet.
+pub struct Entry {
+    pub kind: u32,
+    pub worker: u32,
+    pub field: u32,
+}
+
+// How many workers, fields and events a file has.
+pub struct Counts {
+    pub workers: u32,
+    pub fields: u32,
+    pub events: u32,
+}
+
+// The answer to a file: refused by number and place, or fine.
+pub enum Checked {
+    Refused(u32, usize),
+    Fine(Counts),
+}
+
+// The answer to one section: refused, or fine with its count.
+enum Counted {
+    Refused(u32, usize),
+    Count(u32),
+}
+
+fn wide(x: u8) -> u32
+    ensures { λ r. ⌜ (r ≡ x) × (r < 256) ⌝ }
+{
+    x as u32
+}
+
+fn two_byte(low: u8, high: u8) -> u32
+    ensures { λ r. ⌜ (r ≡ twoByte low high) × (r < 65536) ⌝ }
+{
+    wide(low) + 256 * wide(high)
+}
+
+fn number_at(file: &[u8], i: usize) -> u32
+    requires { ⌜ i + 2 ≤ length (now file) ⌝ }
+    ensures { λ r. ⌜ (r ≡ numberAt (now (file .entry)) i) × (r < 65536) ⌝ }
+{
+    two_byte(file[i], file[i + 1])
+}
+
+// The label at at is below the next, and so on for as many labels as follow.
+fn labels(file: &[u8], at: usize, follow: usize, number: u32) -> Fault
+    requires { ⌜ at + 2 * follow + 2 ≤ length (now file) ⌝ }
+    ensures { λ r. ⌜ r ≡ rising (labelAt (now (file .entry)) at) number at 0 follow ⌝ }
+{
+    let mut before = number_at(file, at);
+    for n in 0..follow {
+        let place = at + 2 * (n + 1);
+        let label = number_at(file, place);
+        if label <= before {
+            return Fault::Refused(number, place);
+        }
+        before = label;
+    }
+    Fault::Fine
+}
+
+// A section of labels whose count stands at at.
+fn label_section(file: &[u8], at: usize, limit: u32, range: u32, order: u32) -> Counted
+    requires { ⌜ at ≤ length (now file) ⌝ }
+    ensures { λ r. ⌜ r ≡ labelsAnswer (now (file .entry)) at limit range order ⌝ }
+{
+    let end = file.len();
+    if end - at < 2 {
+        return Counted::Refused(1, end);
+    }
+    let count = number_at(file, at);
+    if count == 0 {
+        return Counted::Refused(range, at);
+    }
+    if limit < count {
+        return Counted::Refused(range, at);
+    }
+    let n = count as usize;
+    if end - at - 2 < 2 * n {
+        return Counted::Refused(1, end);
+    }
+    match labels(file, at + 2, n - 1, order) {
+        Fault::Refused(number, place) => Counted::Refused(number, place),
+        Fault::Fine => Counted::Count(count),
+    }
+}
+
+fn entry_at(file: &[u8], i: usize) -> Entry
+    requires { ⌜ i + 4 ≤ length (now file) ⌝ }
+    ensures { λ r. ⌜ r ≡ entryAt (now (file .entry)) i ⌝ }
+{
+    Entry {
+        kind: wide(file[i]),
+        worker: wide(file[i + 1]),
+        field: number_at(file, i + 2),
+    }
+}
+
+// The tests within an event that starts at start.
+fn test_event(e: Entry, workers: u32, fields: u32, start: usize) -> Fault
+    ensures { λ r. ⌜ r ≡ eventTests workers fields e start ⌝ }
+{
+    let kind = e.kind;
+    if kind == 0 {
+        return Fault::Refused(7, start);
+    }
+    if 3 < kind {
+        return Fault::Refused(7, start);
+    }
+    if workers <= e.worker {
+        return Fault::Refused(8, start);
+    }
+    if kind == 3 {
+        if e.field == 0 {
+            return Fault::Fine;
+        }
+        return Fault::Refused(9, start);
+    }
+    if e.field < fields {
+        return Fault::Fine;
+    }
+    Fault::Refused(9, start)
+}
+
+// Each of the events that start at at, to the first that is refused.
+fn test_events(file: &[u8], at: usize, count: usize, workers: u32, fields: u32) -> Fault
+    requires { ⌜ at + 4 * count ≤ length (now file) ⌝ }
+    ensures { λ r. ⌜ r ≡ eventsTests workers fields (entriesAt (now (file .entry)) at) at 0 count ⌝ }
+{
+    for n in 0..count {
+        let start = at + 4 * n;
+        let e = entry_at(file, start);
+        if let Fault::Refused(number, place) = test_event(e, workers, fields, start) {
+            return Fault::Refused(number, place);
+        }
+    }
+    Fault::Fine
+}
+
+// The section of events, whose count stands at at.
+fn event_section(file: &[u8], at: usize, workers: u32, fields: u32) -> Counted
+    requires { ⌜ at ≤ length (now file) ⌝ }
+    ensures { λ r. ⌜ r ≡ eventsAnswer (now (file .entry)) at workers fields ⌝ }
+{
+    let end = file.len();
+    if end - at < 2 {
+        return Counted::Refused(1, end);
+    }
+    let count = number_at(file, at);
+    if Event::LIMIT < count {
+        return Counted::Refused(6, at);
+    }
+    let n = count as usize;
+    if end - at - 2 < 4 * n {
+        return Counted::Refused(1, end);
+    }
+    match test_events(file, at + 2, n, workers, fields) {
+        Fault::Refused(number, place) => Counted::Refused(number, place),
+        Fault::Fine => Counted::Count(count),
+    }
+}
+
+// The events, and nothing after them.
+fn check_events(file: &[u8], workers: u32, fields: u32) -> Checked
+    requires { ⌜ (workers ≤ 16) × (fields ≤ 512) × (eventsAt workers fields ≤ length (now file)) ⌝ }
+    ensures { λ r. ⌜ r ≡ toEndAnswer (now (file .entry)) workers fields ⌝ }
+{
+    let at = 4 + 2 * (workers as usize) + 2 * (fields as usize);
+    match event_section(file, at, workers, fields) {
+        Counted::Refused(number, place) => Checked::Refused(number, place),
+        Counted::Count(events) => {
+            let last = at + 2 + 4 * (events as usize);
+            if last < file.len() {
+                return Checked::Refused(10, last);
+            }
+            Checked::Fine(Counts {
+                workers: workers,
+                fields: fields,
+                events: events,
+            })
+        }
+    }
+}
+
+// The answer to a whole file, of any length: the first test that fails, or its counts.
+pub fn check(file: &[u8]) -> Checked
+    ensures { λ r. ⌜ r ≡ checked (now (file .entry)) ⌝ }
+{
+    match label_section(file, 0, Worker::LIMIT, 2, 3) {
+        Counted::Refused(number, place) => Checked::Refused(number, place),
+        Counted::Count(workers) => {
+            let at = 2 + 2 * (workers as usize);
+            match label_section(file, at, Field::LIMIT, 4, 5) {
+                Counted::Refused(number, place) => Checked::Refused(number, place),
+                Counted::Count(fields) => check_events(file, workers, fields),
+            }
+        }
+    }
+}
+
+// What an event's numbers say; meant for numbers that passed the tests.
+fn event_of(e: Entry) -> Event
+    ensures { λ r. ⌜ r ≡ eventOf e ⌝ }
+{
+    let w = Worker(e.worker);
+    let f = Field(e.field);
+    if e.kind == 1 {
+        return Event::Read(w, f);
+    }
+    if e.kind == 2 {
+        return Event::Write(w, f);
+    }
+    Event::Crossing(w)
+}
+
+// Event n of a file that the check accepted with these counts.
+pub fn event_at(file: &[u8], counts: Counts, n: u32) -> Event
+    requires { ⌜ Accepted (now file) counts × (n < counts .events) ⌝ }
+    ensures { λ r. ⌜ r ≡ eventAt (now (file .entry)) n ⌝ }
+{
+    let at = 4 + 2 * (counts.workers as usize) + 2 * (counts.fields as usize);
+    event_of(entry_at(file, at + 2 + 4 * (n as usize)))
+}
+
+// Past the end stands 0.
+fn byte_at(file: &[u8], i: usize) -> u8
+    ensures { λ r. ⌜ r ≡ getD (now (file .entry)) i 0 ⌝ }
+{
+    if i < file.len() {
+        return file[i];
+    }
+    0
+}
+
+// The two-byte number at any place.
+fn any_number_at(file: &[u8], i: usize) -> u32
+    requires { ⌜ i < 1099511627776 ⌝ }
+    ensures { λ r. ⌜ (r ≡ numberAt (now (file .entry)) i) × (r < 65536) ⌝ }
+{
+    two_byte(byte_at(file, i), byte_at(file, i + 1))
+}
+
+// The label of a worker of a checked file; for a number that is no worker's, what stands where its label would.
+pub fn worker_label(file: &[u8], w: Worker) -> u32
+    ensures { λ r. ⌜ r ≡ workerLabel (now (file .entry)) (w .0) ⌝ }
+{
+    any_number_at(file, 2 + 2 * (w.0 as usize))
+}
+
+// The label of a field, in the same way.
+pub fn field_label(file: &[u8], f: Field) -> u32
+    ensures { λ r. ⌜ r ≡ fieldLabel (now (file .entry)) (f .0) ⌝ }
+{
+    let workers = any_number_at(file, 0) as usize;
+    any_number_at(file, 2 + 2 * workers + 2 + 2 * (f.0 as usize))
+}
