@@ -63,14 +63,7 @@ fn compare_all(requests: Receiver<Request>, mut output: impl Read) -> Result<Tal
     let mut tally = Tally::default();
     for request in requests {
         let expected = request.expected();
-        let expected_bytes = expected.bytes();
-        let mut bytes = vec![0; expected_bytes.len()];
-        let trouble = match output.read_exact(&mut bytes) {
-            Err(error) => Some(format!("the subject's response cannot be read: {error}")),
-            Ok(()) if bytes != expected_bytes => first_difference(&request, &expected_bytes, &bytes),
-            Ok(()) => None,
-        };
-        if let Some(trouble) = trouble {
+        if let Err(trouble) = compare_one(&request, &expected.words(), &mut output) {
             return Err(format!("request {}: {trouble}\n{}", tally.compared, describe(&request)));
         }
         tally.count(&request, &expected);
@@ -81,14 +74,16 @@ fn compare_all(requests: Receiver<Request>, mut output: impl Read) -> Result<Tal
     }
 }
 
-fn first_difference(request: &Request, expected: &[u8], got: &[u8]) -> Option<String> {
-    let words = |bytes: &[u8]| -> Vec<u32> {
-        bytes.chunks_exact(4).map(|word| u32::from_le_bytes([word[0], word[1], word[2], word[3]])).collect()
+fn compare_one(request: &Request, expected: &[u32], output: &mut impl Read) -> Result<(), String> {
+    let mut bytes = vec![0; 4 * expected.len()];
+    let read = output.read_exact(&mut bytes);
+    read.map_err(|error| format!("the subject's response cannot be read: {error}"))?;
+    let got = bytes.chunks_exact(4).map(|word| u32::from_le_bytes([word[0], word[1], word[2], word[3]]));
+    let difference = got.zip(expected).enumerate().find(|(_, (got, expected))| got != *expected);
+    let Some((word, (got, expected))) = difference else {
+        return Ok(());
     };
-    let (expected, got) = (words(expected), words(got));
-    let word = (0..expected.len()).find(|&word| expected[word] != got[word])?;
-    let place = place_in_response(request, word);
-    Some(format!("{place} is {} but should be {}", got[word], expected[word]))
+    Err(format!("{} is {got} but should be {expected}", place_in_response(request, word)))
 }
 
 /// Names a word of the response: part of an answer, or a word of a table.
@@ -157,7 +152,7 @@ impl std::fmt::Display for Tally {
     fn fmt(&self, f: &mut std::fmt::Formatter) -> std::fmt::Result {
         for ((origin, finder), outcomes) in &self.outcomes {
             let all: usize = outcomes.values().sum();
-            writeln!(f, "{origin:?}, {finder}, {all} files").map(|()| outcomes)?;
+            writeln!(f, "{origin:?}, {finder}, {all} files")?;
             for (outcome, &count) in outcomes {
                 writeln!(f, "  {outcome:<24} {count:>8} {:>5.1} %", 100.0 * count as f64 / all as f64)?;
             }

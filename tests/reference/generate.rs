@@ -39,7 +39,7 @@ impl Shape {
     pub fn random(random: &mut Random) -> Shape {
         let workers = match random.below(4) {
             0 => random.from_to(1, MOST_WORKERS),
-            _ => random.one_of(&[1, 2, 2, 2, 3, 3, 4, 16]),
+            _ => random.one_of(&[2, 2, 2, 3, 3, 4, 5, 16]),
         };
         let fields = match random.below(5) {
             0 => random.from_to(1, MOST_FIELDS),
@@ -52,9 +52,9 @@ impl Shape {
             _ => random.below(40),
         };
         let (care, care_ends) = match random.below(20) {
-            0..=8 => (Care::Careful, events),
-            9..=16 => (Care::OverReaders, events),
-            17 => (Care::Careless, events),
+            0..=4 => (Care::Careful, events),
+            5..=11 => (Care::OverReaders, events),
+            12..=14 => (Care::Careless, events),
             _ => (Care::Careful, random.below(events + 1)),
         };
         Shape {
@@ -62,7 +62,7 @@ impl Shape {
             fields,
             events,
             crossings: random.one_of(&[5, 30, 100, 250]),
-            writes: random.one_of(&[20, 100, 250, 500]),
+            writes: random.one_of(&[30, 100, 250, 500]),
             hot_fields: random.from_to(1, fields.min(4)),
             runs: random.one_of(&[0, 30, 80]),
             care,

@@ -22,7 +22,7 @@ decode   prints a file's labels and events
 answer   prints what the program must print
 cases    runs the program on the cases of tests/cases
 sample   runs the program on N random and damaged files (200 if not given)
-compare  holds a subject beside the reference: the cases, all recordings of up to about D events (4 if not given),
+compare  holds a subject beside the reference: the cases, all recordings of up to about D events (5 if not given),
          N random and damaged files (20000 if not given)
 shares   tells how often each outcome comes up in what compare would run
 pick     writes the file of request K of what compare would run";
@@ -101,7 +101,7 @@ impl Options {
         Plan {
             seed: self.seed.unwrap_or(1),
             count: self.count.unwrap_or(20_000),
-            depth: self.depth.unwrap_or(4),
+            depth: self.depth.unwrap_or(5),
         }
     }
 }

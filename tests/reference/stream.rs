@@ -79,13 +79,13 @@ impl Request {
 
 impl Response {
     /// For each finder the answer's six numbers, then every word of its tables.
-    pub fn bytes(&self) -> Vec<u8> {
-        let mut bytes = Vec::new();
+    pub fn words(&self) -> Vec<u32> {
+        let mut words = Vec::new();
         for (answer, tables) in [(self.early, &self.early_tables), (self.late, &self.late_tables)] {
-            bytes.extend(answer_numbers(answer).into_iter().flat_map(u32::to_le_bytes));
-            bytes.extend(tables.iter().flatten().flat_map(|word| word.to_le_bytes()));
+            words.extend(answer_numbers(answer));
+            words.extend(tables.concat());
         }
-        bytes
+        words
     }
 }
 
