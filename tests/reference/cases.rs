@@ -22,7 +22,11 @@ pub fn all() -> Result<Vec<Case>, String> {
 /// Cases are separated by empty lines; lines that start with # are for the reader.
 fn cases_of(text: &str) -> Result<Vec<Case>, String> {
     let lines: Vec<&str> = text.lines().filter(|line| !line.starts_with('#')).collect();
-    lines.split(|line| line.is_empty()).filter(|lines| !lines.is_empty()).map(case_of).collect()
+    lines
+        .split(|line| line.is_empty())
+        .filter(|lines| !lines.is_empty())
+        .map(case_of)
+        .collect()
 }
 
 /// `case NAME`, then either `bytes` or `workers`, `fields` and `events`, then the printed lines.
@@ -33,8 +37,15 @@ fn case_of(lines: &[&str]) -> Result<Case, String> {
         Ok(pieces) => (bytes(pieces).map_err(in_case)?, 2),
         Err(_) => (sequence(lines).map_err(in_case)?, 4),
     };
-    let expected = lines[printed_from..].iter().map(|line| format!("{line}\n")).collect();
-    Ok(Case { name, file, expected })
+    let expected = lines[printed_from..]
+        .iter()
+        .map(|line| format!("{line}\n"))
+        .collect();
+    Ok(Case {
+        name,
+        file,
+        expected,
+    })
 }
 
 fn sequence(lines: &[&str]) -> Result<Vec<u8>, String> {
@@ -47,11 +58,15 @@ fn sequence(lines: &[&str]) -> Result<Vec<u8>, String> {
 /// What follows the given word on a line of the case.
 fn part<'a>(lines: &[&'a str], line: usize, word: &str) -> Result<&'a str, String> {
     let rest = lines.get(line).and_then(|text| text.strip_prefix(word));
-    rest.map(str::trim).ok_or(format!("line {} should start with '{word}'", line + 1))
+    rest.map(str::trim)
+        .ok_or(format!("line {} should start with '{word}'", line + 1))
 }
 
 fn bytes(pieces: &str) -> Result<Vec<u8>, String> {
-    let pieces: Vec<Vec<u8>> = pieces.split_whitespace().map(piece).collect::<Result<_, _>>()?;
+    let pieces: Vec<Vec<u8>> = pieces
+        .split_whitespace()
+        .map(piece)
+        .collect::<Result<_, _>>()?;
     Ok(pieces.concat())
 }
 
@@ -71,13 +86,22 @@ fn piece(text: &str) -> Result<Vec<u8>, String> {
 }
 
 fn decimal(text: &str) -> Result<usize, String> {
-    text.parse().ok().filter(|&number| number < 65_536).ok_or(format!("'{text}' is no number below 65536"))
+    text.parse()
+        .ok()
+        .filter(|&number| number < 65_536)
+        .ok_or(format!("'{text}' is no number below 65536"))
 }
 
 fn hexadecimal(text: &str) -> Result<Vec<u8>, String> {
-    let byte = |pair: &[u8]| std::str::from_utf8(pair).ok().and_then(|pair| u8::from_str_radix(pair, 16).ok());
+    let byte = |pair: &[u8]| {
+        std::str::from_utf8(pair)
+            .ok()
+            .and_then(|pair| u8::from_str_radix(pair, 16).ok())
+    };
     let bytes: Option<Vec<u8>> = text.as_bytes().chunks(2).map(byte).collect();
-    bytes.filter(|_| text.len() % 2 == 0).ok_or(format!("'{text}' is not made of hexadecimal bytes"))
+    bytes
+        .filter(|_| text.len() % 2 == 0)
+        .ok_or(format!("'{text}' is not made of hexadecimal bytes"))
 }
 
 #[cfg(test)]
@@ -88,7 +112,12 @@ mod tests {
     #[test]
     fn the_reference_prints_what_every_case_expects() {
         for case in all().expect("the case files are good") {
-            assert_eq!(printed(&file::read(&case.file)), case.expected, "case {}", case.name);
+            assert_eq!(
+                printed(&file::read(&case.file)),
+                case.expected,
+                "case {}",
+                case.name
+            );
         }
     }
 
@@ -96,7 +125,11 @@ mod tests {
     fn the_fourteen_cases_and_the_printed_example_are_there() {
         let cases = all().expect("the case files are good");
         for name in "a b c d e f g h i j k l m n printed-example".split(' ') {
-            assert_eq!(cases.iter().filter(|case| case.name == name).count(), 1, "case {name}");
+            assert_eq!(
+                cases.iter().filter(|case| case.name == name).count(),
+                1,
+                "case {name}"
+            );
         }
     }
 }

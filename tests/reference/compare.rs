@@ -16,7 +16,9 @@ use crate::verdict::{Report, NOT_RECORDED};
 const END_OF_STREAM: u32 = u32::MAX;
 /// So many requests may be under way.
 const UNDER_WAY: usize = 64;
-const ANSWER_NUMBERS: [&str; 6] = ["kind", "number 1", "number 2", "number 3", "number 4", "number 5"];
+const ANSWER_NUMBERS: [&str; 6] = [
+    "kind", "number 1", "number 2", "number 3", "number 4", "number 5",
+];
 
 /// Compares the subject on the whole plan; the error tells the first difference.
 pub fn compare(plan: Plan, command: &[String]) -> Result<Tally, String> {
@@ -31,11 +33,15 @@ pub fn compare(plan: Plan, command: &[String]) -> Result<Tally, String> {
         // It may still wait for input; nothing it could say matters any more.
         let _ = subject.kill();
     }
-    let status = subject.wait().map_err(|error| format!("the subject cannot be waited for: {error}"))?;
+    let status = subject
+        .wait()
+        .map_err(|error| format!("the subject cannot be waited for: {error}"))?;
     let _ = feeder.join();
     let tally = compared?;
     if !status.success() {
-        return Err(format!("the subject answered everything, but ended with {status}"));
+        return Err(format!(
+            "the subject answered everything, but ended with {status}"
+        ));
     }
     Ok(tally)
 }
@@ -43,12 +49,21 @@ pub fn compare(plan: Plan, command: &[String]) -> Result<Tally, String> {
 fn start(command: &[String]) -> Result<Child, String> {
     let (program, arguments) = command.split_first().ok_or("no program is named")?;
     let mut command = Command::new(program);
-    command.args(arguments).stdin(Stdio::piped()).stdout(Stdio::piped());
-    command.spawn().map_err(|error| format!("{program} cannot be started: {error}"))
+    command
+        .args(arguments)
+        .stdin(Stdio::piped())
+        .stdout(Stdio::piped());
+    command
+        .spawn()
+        .map_err(|error| format!("{program} cannot be started: {error}"))
 }
 
 /// Announces each request before it is written, so that its response is awaited while the subject works.
-fn feed(requests: impl Iterator<Item = Request>, mut input: ChildStdin, sender: SyncSender<Request>) {
+fn feed(
+    requests: impl Iterator<Item = Request>,
+    mut input: ChildStdin,
+    sender: SyncSender<Request>,
+) {
     for request in requests {
         let bytes = request.bytes();
         // A subject or a comparison that has ended is told of on the reading side.
@@ -64,7 +79,11 @@ fn compare_all(requests: Receiver<Request>, mut output: impl Read) -> Result<Tal
     for request in requests {
         let expected = request.expected();
         if let Err(trouble) = compare_one(&request, &expected.words(), &mut output) {
-            return Err(format!("request {}: {trouble}\n{}", tally.compared, describe(&request)));
+            return Err(format!(
+                "request {}: {trouble}\n{}",
+                tally.compared,
+                describe(&request)
+            ));
         }
         tally.count(&request, &expected);
     }
@@ -78,12 +97,20 @@ fn compare_one(request: &Request, expected: &[u32], output: &mut impl Read) -> R
     let mut bytes = vec![0; 4 * expected.len()];
     let read = output.read_exact(&mut bytes);
     read.map_err(|error| format!("the subject's response cannot be read: {error}"))?;
-    let got = bytes.chunks_exact(4).map(|word| u32::from_le_bytes([word[0], word[1], word[2], word[3]]));
-    let difference = got.zip(expected).enumerate().find(|(_, (got, expected))| got != *expected);
-    let Some((word, (got, expected))) = difference else {
-        return Ok(());
-    };
-    Err(format!("{} is {got} but should be {expected}", place_in_response(request, word)))
+    let got = bytes
+        .chunks_exact(4)
+        .map(|word| u32::from_le_bytes([word[0], word[1], word[2], word[3]]));
+    let difference = got
+        .zip(expected)
+        .enumerate()
+        .find(|(_, (got, expected))| got != *expected);
+    match difference {
+        None => Ok(()),
+        Some((word, (got, expected))) => {
+            let place = place_in_response(request, word);
+            Err(format!("{place} is {got} but should be {expected}"))
+        }
+    }
 }
 
 /// Names a word of the response: part of an answer, or a word of a table.
@@ -94,7 +121,10 @@ fn place_in_response(request: &Request, word: usize) -> String {
             parts.push(("late answer".to_string(), ANSWER_NUMBERS.len()));
         }
         let finder = if n < 3 { "early" } else { "late" };
-        parts.push((format!("{finder} {table:?}").to_lowercase(), request.lengths[n]));
+        parts.push((
+            format!("{finder} {table:?}").to_lowercase(),
+            request.lengths[n],
+        ));
     }
     let mut left = word;
     for (name, length) in parts {
@@ -113,11 +143,23 @@ fn describe(request: &Request) -> String {
     let what = match file::read(&request.file) {
         Ok(recording) => notation::text(&recording),
         Err(refused) => {
-            let hexadecimal: Vec<String> = request.file.iter().map(|byte| format!("{byte:02X}")).collect();
-            format!("bytes {}\nrefused {} {}\n", hexadecimal.join(" "), refused.number, refused.place)
+            let hexadecimal: Vec<String> = request
+                .file
+                .iter()
+                .map(|byte| format!("{byte:02X}"))
+                .collect();
+            format!(
+                "bytes {}\nrefused {} {}\n",
+                hexadecimal.join(" "),
+                refused.number,
+                refused.place
+            )
         }
     };
-    format!("{what}table lengths {:?}\nnoise {}", request.lengths, request.noise)
+    format!(
+        "{what}table lengths {:?}\nnoise {}",
+        request.lengths, request.noise
+    )
 }
 
 /// How many requests were compared, and how often each outcome was expected.
@@ -142,8 +184,15 @@ fn outcome(answer: Answer, events: usize) -> String {
     match answer {
         Answer::Refused(refused) => format!("refused {:02}", refused.number),
         Answer::Accepted => "accepted".to_string(),
-        Answer::Reported(Report { event, other: NOT_RECORDED, .. }) if event == events => "at the end".to_string(),
-        Answer::Reported(Report { other: NOT_RECORDED, .. }) => "at a crossing".to_string(),
+        Answer::Reported(Report {
+            event,
+            other: NOT_RECORDED,
+            ..
+        }) if event == events => "at the end".to_string(),
+        Answer::Reported(Report {
+            other: NOT_RECORDED,
+            ..
+        }) => "at a crossing".to_string(),
         Answer::Reported(Report { sort, .. }) => format!("at an access, sort {sort}"),
     }
 }
@@ -154,7 +203,11 @@ impl std::fmt::Display for Tally {
             let all: usize = outcomes.values().sum();
             writeln!(f, "{origin:?}, {finder}, {all} files")?;
             for (outcome, &count) in outcomes {
-                writeln!(f, "  {outcome:<24} {count:>8} {:>5.1} %", 100.0 * count as f64 / all as f64)?;
+                writeln!(
+                    f,
+                    "  {outcome:<24} {count:>8} {:>5.1} %",
+                    100.0 * count as f64 / all as f64
+                )?;
             }
         }
         Ok(())

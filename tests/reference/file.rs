@@ -51,7 +51,11 @@ pub fn read(file: &[u8]) -> Result<Recording, Refused> {
     if reader.place < file.len() {
         return refuse(10, reader.place);
     }
-    Ok(Recording { workers, fields, events })
+    Ok(Recording {
+        workers,
+        fields,
+        events,
+    })
 }
 
 struct Reader<'a> {
@@ -94,7 +98,7 @@ impl Reader<'_> {
         for _ in 0..count {
             let place = self.place;
             let label = self.two_bytes();
-            if labels.last().is_some_and(|&before| label <= before) {
+            if labels.last().map_or(false, |&before| label <= before) {
                 return refuse(number, place);
             }
             labels.push(label);
@@ -103,7 +107,12 @@ impl Reader<'_> {
     }
 
     /// All events are present, then each is in order.
-    fn events(&mut self, count: usize, workers: usize, fields: usize) -> Result<Vec<Event>, Refused> {
+    fn events(
+        &mut self,
+        count: usize,
+        workers: usize,
+        fields: usize,
+    ) -> Result<Vec<Event>, Refused> {
         self.present(EVENT_BYTES * count)?;
         (0..count).map(|_| self.event(workers, fields)).collect()
     }
@@ -126,7 +135,11 @@ impl Reader<'_> {
         if field >= fields || (kind == Kind::Crossing && field != 0) {
             return refuse(9, place);
         }
-        Ok(Event { kind, worker, field })
+        Ok(Event {
+            kind,
+            worker,
+            field,
+        })
     }
 }
 
@@ -169,7 +182,11 @@ mod tests {
 
     /// Rising labels from 0, and reads of field 0 by worker 0.
     fn plain(workers: usize, fields: usize, events: usize) -> Vec<u8> {
-        let read = Event { kind: Kind::Read, worker: 0, field: 0 };
+        let read = Event {
+            kind: Kind::Read,
+            worker: 0,
+            field: 0,
+        };
         write(&Recording {
             workers: (0..workers as u16).collect(),
             fields: (0..fields as u16).collect(),
@@ -238,8 +255,14 @@ mod tests {
     fn events_are_tested_kind_worker_field() {
         let file = plain(1, 1, 2);
         assert_eq!(refused(&changed(file.clone(), &[(14, 0)])), (7, 14));
-        assert_eq!(refused(&changed(file.clone(), &[(14, 4), (15, 9), (16, 9)])), (7, 14));
-        assert_eq!(refused(&changed(file.clone(), &[(15, 1), (16, 9)])), (8, 14));
+        assert_eq!(
+            refused(&changed(file.clone(), &[(14, 4), (15, 9), (16, 9)])),
+            (7, 14)
+        );
+        assert_eq!(
+            refused(&changed(file.clone(), &[(15, 1), (16, 9)])),
+            (8, 14)
+        );
         assert_eq!(refused(&changed(file.clone(), &[(16, 1)])), (9, 14));
         assert_eq!(refused(&changed(file, &[(17, 1)])), (9, 14));
     }
@@ -247,7 +270,10 @@ mod tests {
     #[test]
     fn a_crossing_has_field_0() {
         let file = plain(1, 2, 1);
-        assert_eq!(refused(&changed(file.clone(), &[(12, 3), (14, 1)])), (9, 12));
+        assert_eq!(
+            refused(&changed(file.clone(), &[(12, 3), (14, 1)])),
+            (9, 12)
+        );
         assert!(read(&changed(file, &[(12, 3)])).is_ok());
     }
 

@@ -35,15 +35,26 @@ pub fn answers(
 }
 
 fn too_short(tables: &[Table], lent: &[Vec<u32>]) -> bool {
-    tables.iter().zip(lent).any(|(table, words)| words.len() < table.full_length())
+    tables
+        .iter()
+        .zip(lent)
+        .any(|(table, words)| words.len() < table.full_length())
 }
 
 fn refused_for_a_short_table() -> Answer {
-    Answer::Refused(Refused { number: 11, place: 0 })
+    Answer::Refused(Refused {
+        number: 11,
+        place: 0,
+    })
 }
 
 /// The tables show the events before the reported one, or all of them; words past the full length stay.
-fn found(history: &History, report: Option<Report>, tables: &[Table], lent: &mut [Vec<u32>]) -> Answer {
+fn found(
+    history: &History,
+    report: Option<Report>,
+    tables: &[Table],
+    lent: &mut [Vec<u32>],
+) -> Answer {
     let shown = report.map_or(history.events().len(), |report| report.event);
     for (table, words) in tables.iter().zip(lent) {
         words[..table.full_length()].copy_from_slice(&table.words(history, shown));
@@ -58,7 +69,10 @@ mod tests {
     use crate::notation;
 
     fn lent(tables: &[Table], extra: usize) -> Vec<Vec<u32>> {
-        tables.iter().map(|table| vec![99; table.full_length() + extra]).collect()
+        tables
+            .iter()
+            .map(|table| vec![99; table.full_length() + extra])
+            .collect()
     }
 
     fn after(events: &str) -> (Vec<Vec<u32>>, Vec<Vec<u32>>) {
@@ -72,7 +86,12 @@ mod tests {
     fn used(words: &[u32]) -> Vec<(usize, u32)> {
         let full = words.len() - 1;
         assert_eq!(words[full], 99, "a word past the full length changed");
-        words[..full].iter().copied().enumerate().filter(|&(_, word)| word != 0).collect()
+        words[..full]
+            .iter()
+            .copied()
+            .enumerate()
+            .filter(|&(_, word)| word != 0)
+            .collect()
     }
 
     #[test]
@@ -112,8 +131,20 @@ mod tests {
             late[short].pop();
             let before = late.clone();
             let (early_answer, late_answer) = answers(&file::read(&[]), &mut early, &mut late);
-            assert_eq!(early_answer, Answer::Refused(Refused { number: 1, place: 0 }));
-            assert_eq!(late_answer, Answer::Refused(Refused { number: 11, place: 0 }));
+            assert_eq!(
+                early_answer,
+                Answer::Refused(Refused {
+                    number: 1,
+                    place: 0
+                })
+            );
+            assert_eq!(
+                late_answer,
+                Answer::Refused(Refused {
+                    number: 11,
+                    place: 0
+                })
+            );
             assert_eq!((early, late), (lent(&EARLY, 0), before));
         }
     }

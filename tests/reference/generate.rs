@@ -2,7 +2,9 @@
 
 use std::collections::BTreeSet;
 
-use crate::file::{self, Event, Kind, Recording, EVENT_BYTES, MOST_EVENTS, MOST_FIELDS, MOST_WORKERS};
+use crate::file::{
+    self, Event, Kind, Recording, EVENT_BYTES, MOST_EVENTS, MOST_FIELDS, MOST_WORKERS,
+};
 use crate::notation::{rising, FIRST_FIELD_LABEL, FIRST_WORKER_LABEL};
 use crate::random::Random;
 
@@ -83,7 +85,11 @@ impl OpenStretches {
         match event.kind {
             Kind::Read => self.read[event.field] |= bit,
             Kind::Write => self.written[event.field] |= bit,
-            Kind::Crossing => self.read.iter_mut().chain(&mut self.written).for_each(|bits| *bits &= !bit),
+            Kind::Crossing => self
+                .read
+                .iter_mut()
+                .chain(&mut self.written)
+                .for_each(|bits| *bits &= !bit),
         }
     }
 
@@ -102,35 +108,70 @@ impl OpenStretches {
 pub fn recording(shape: &Shape, random: &mut Random) -> Recording {
     let workers = labels(shape.workers, random);
     let fields = labels(shape.fields, random);
-    let mut open = OpenStretches { read: vec![0; shape.fields], written: vec![0; shape.fields] };
+    let mut open = OpenStretches {
+        read: vec![0; shape.fields],
+        written: vec![0; shape.fields],
+    };
     let mut events: Vec<Event> = Vec::new();
     for n in 0..shape.events {
         let worker = match events.last() {
             Some(before) if random.percent(shape.runs) => before.worker,
             _ => random.below(shape.workers),
         };
-        let care = if n < shape.care_ends { shape.care } else { Care::Careless };
+        let care = if n < shape.care_ends {
+            shape.care
+        } else {
+            Care::Careless
+        };
         let event = next_event(shape, worker, care, &open, random);
         open.enter(event);
         events.push(event);
     }
-    Recording { workers, fields, events }
+    Recording {
+        workers,
+        fields,
+        events,
+    }
 }
 
 /// A crossing also if no access can be found that the care allows.
-fn next_event(shape: &Shape, worker: usize, care: Care, open: &OpenStretches, random: &mut Random) -> Event {
-    let crossing = Event { kind: Kind::Crossing, worker, field: 0 };
+fn next_event(
+    shape: &Shape,
+    worker: usize,
+    care: Care,
+    open: &OpenStretches,
+    random: &mut Random,
+) -> Event {
+    let crossing = Event {
+        kind: Kind::Crossing,
+        worker,
+        field: 0,
+    };
     if random.below(1000) < shape.crossings {
         return crossing;
     }
     let mut accesses = (0..10).map(|_| access(shape, worker, random));
-    accesses.find(|&access| open.allows(access, care)).unwrap_or(crossing)
+    accesses
+        .find(|&access| open.allows(access, care))
+        .unwrap_or(crossing)
 }
 
 fn access(shape: &Shape, worker: usize, random: &mut Random) -> Event {
-    let kind = if random.below(1000) < shape.writes { Kind::Write } else { Kind::Read };
-    let fields = if random.percent(60) { shape.hot_fields } else { shape.fields };
-    Event { kind, worker, field: random.below(fields) }
+    let kind = if random.below(1000) < shape.writes {
+        Kind::Write
+    } else {
+        Kind::Read
+    };
+    let fields = if random.percent(60) {
+        shape.hot_fields
+    } else {
+        shape.fields
+    };
+    Event {
+        kind,
+        worker,
+        field: random.below(fields),
+    }
 }
 
 /// Rising labels: in small steps or anywhere, the lowest and the highest value among them.
@@ -143,29 +184,47 @@ fn labels(count: usize, random: &mut Random) -> Vec<u16> {
         labels.insert(random.one_of(&[0, u16::MAX]));
     }
     while labels.len() < count {
-        labels.insert(random.next() as u16);
+        labels.insert(random.number() as u16);
     }
     labels.into_iter().collect()
 }
 
 /// All recordings of up to so many events.
-pub fn all_small(workers: usize, fields: usize, most_events: usize) -> impl Iterator<Item = Recording> {
+pub fn all_small(
+    workers: usize,
+    fields: usize,
+    most_events: usize,
+) -> impl Iterator<Item = Recording> {
     let choices = all_events(workers, fields);
     (0..=most_events).flat_map(move |length| {
         let choices = choices.clone();
         (0..choices.len().pow(length as u32)).map(move |number| Recording {
             workers: rising(FIRST_WORKER_LABEL, workers),
             fields: rising(FIRST_FIELD_LABEL, fields),
-            events: digits(number, length, choices.len()).map(|digit| choices[digit]).collect(),
+            events: digits(number, length, choices.len())
+                .map(|digit| choices[digit])
+                .collect(),
         })
     })
 }
 
 fn all_events(workers: usize, fields: usize) -> Vec<Event> {
     let of_worker = |worker| {
-        let accesses = move |kind| (0..fields).map(move |field| Event { kind, worker, field });
-        let crossing = Event { kind: Kind::Crossing, worker, field: 0 };
-        accesses(Kind::Read).chain(accesses(Kind::Write)).chain([crossing])
+        let accesses = move |kind| {
+            (0..fields).map(move |field| Event {
+                kind,
+                worker,
+                field,
+            })
+        };
+        let crossing = Event {
+            kind: Kind::Crossing,
+            worker,
+            field: 0,
+        };
+        accesses(Kind::Read)
+            .chain(accesses(Kind::Write))
+            .chain([crossing])
     };
     (0..workers).flat_map(of_worker).collect()
 }
@@ -224,7 +283,11 @@ fn damage(file: &mut Vec<u8>, layout: &Layout, random: &mut Random) {
 
 /// Puts a two-byte number; an earlier cut may have taken the place away.
 fn put(file: &mut [u8], place: usize, number: usize) {
-    for (byte, value) in file.iter_mut().skip(place).zip((number as u16).to_le_bytes()) {
+    for (byte, value) in file
+        .iter_mut()
+        .skip(place)
+        .zip((number as u16).to_le_bytes())
+    {
         *byte = value;
     }
 }
@@ -248,7 +311,16 @@ fn bend_label(file: &mut [u8], first: usize, count: usize, random: &mut Random) 
     }
     let place = first + 2 * random.from_to(1, count - 1);
     let before = two_bytes(file, place - 2);
-    put(file, place, random.one_of(&[before, before.saturating_sub(1), before.saturating_sub(256), 0]));
+    put(
+        file,
+        place,
+        random.one_of(&[
+            before,
+            before.saturating_sub(1),
+            before.saturating_sub(256),
+            0,
+        ]),
+    );
 }
 
 fn bend_event(file: &mut [u8], layout: &Layout, random: &mut Random) {
@@ -263,19 +335,36 @@ fn bend_event(file: &mut [u8], layout: &Layout, random: &mut Random) {
     };
     match random.below(5) {
         0 => put_byte(place, random.one_of(&[0, 4, 5, 6, 255])),
-        1 => put_byte(place + 1, random.one_of(&[layout.workers, layout.workers + 1, 16, 17, 128, 255])),
-        2 => put(file, place + 2, random.one_of(&[layout.fields, layout.fields + 1, 512, 32_768, 65_535])),
+        1 => put_byte(
+            place + 1,
+            random.one_of(&[layout.workers, layout.workers + 1, 16, 17, 128, 255]),
+        ),
+        2 => put(
+            file,
+            place + 2,
+            random.one_of(&[layout.fields, layout.fields + 1, 512, 32_768, 65_535]),
+        ),
         3 => put_byte(place + 3, random.from_to(1, 255)),
         _ => {
             put_byte(place, 3);
-            put(file, place + 2, random.one_of(&[0, 1, 256, layout.fields - 1]));
+            put(
+                file,
+                place + 2,
+                random.one_of(&[0, 1, 256, layout.fields - 1]),
+            );
         }
     }
 }
 
 /// Cuts at a border of the file's parts, next to one, or anywhere.
 fn cut(file: &mut Vec<u8>, layout: &Layout, random: &mut Random) {
-    let borders = [2, layout.field_count(), layout.field_count() + 2, layout.event_count(), layout.event(0)];
+    let borders = [
+        2,
+        layout.field_count(),
+        layout.field_count() + 2,
+        layout.event_count(),
+        layout.event(0),
+    ];
     let event_border = layout.event(random.below(layout.events + 1));
     let length = match random.below(4) {
         0 => random.one_of(&borders),

@@ -79,7 +79,9 @@ impl Options {
                 options.plain.push(argument.clone());
                 continue;
             }
-            let value = rest.next().ok_or(format!("{argument} needs a value\n{USAGE}"))?;
+            let value = rest
+                .next()
+                .ok_or(format!("{argument} needs a value\n{USAGE}"))?;
             options.set(argument, value)?;
         }
         Ok(options)
@@ -112,12 +114,16 @@ fn number<T: std::str::FromStr>(text: &str) -> Result<T, String> {
 
 fn input() -> Result<Vec<u8>, String> {
     let mut bytes = Vec::new();
-    std::io::stdin().read_to_end(&mut bytes).map_err(|error| format!("the input cannot be read: {error}"))?;
+    std::io::stdin()
+        .read_to_end(&mut bytes)
+        .map_err(|error| format!("the input cannot be read: {error}"))?;
     Ok(bytes)
 }
 
 fn write_out(bytes: &[u8]) -> Result<(), String> {
-    std::io::stdout().write_all(bytes).map_err(|error| format!("the output cannot be written: {error}"))
+    std::io::stdout()
+        .write_all(bytes)
+        .map_err(|error| format!("the output cannot be written: {error}"))
 }
 
 fn encode(options: &Options) -> Result<(), String> {
@@ -138,7 +144,10 @@ fn passed(runs: usize) -> Result<(), String> {
 }
 
 fn sample(options: &Options) -> Result<(), String> {
-    let plan = Plan { count: options.count.unwrap_or(200), ..options.plan() };
+    let plan = Plan {
+        count: options.count.unwrap_or(200),
+        ..options.plan()
+    };
     println!("seed {}", plan.seed);
     passed(run::sample(plan, &options.run)?)
 }
@@ -162,10 +171,10 @@ fn shares(options: &Options) -> Result<(), String> {
 }
 
 fn pick(options: &Options) -> Result<(), String> {
-    let [wanted] = options.plain.as_slice() else {
-        return Err(USAGE.to_string());
-    };
+    let wanted = options.plain.first().ok_or(USAGE)?;
     let wanted: usize = number(wanted)?;
-    let request = stream::requests(options.plan())?.nth(wanted).ok_or(format!("there is no request {wanted}"))?;
+    let request = stream::requests(options.plan())?
+        .nth(wanted)
+        .ok_or(format!("there is no request {wanted}"))?;
     write_out(&request.file)
 }

@@ -13,7 +13,11 @@ pub fn printed(file: &Result<Recording, Refused>) -> String {
 
 fn verdicts(recording: &Recording) -> String {
     let history = History::of(recording);
-    let Recording { workers, fields, events } = recording;
+    let Recording {
+        workers,
+        fields,
+        events,
+    } = recording;
     format!(
         "trace {} {} {}\nearly {}\nlate {}\n",
         workers.len(),
@@ -25,14 +29,15 @@ fn verdicts(recording: &Recording) -> String {
 }
 
 fn verdict(recording: &Recording, report: Option<Report>) -> String {
-    let Some(Report { event, sort, worker, other, field }) = report else {
-        return "ok".to_string();
-    };
-    let worker = recording.workers[worker];
-    let field = recording.fields[field];
-    let other = match other {
+    report.map_or("ok".to_string(), |report| reported(recording, report))
+}
+
+fn reported(recording: &Recording, report: Report) -> String {
+    let worker = recording.workers[report.worker];
+    let other = match report.other {
         NOT_RECORDED => "-".to_string(),
         other => recording.workers[other].to_string(),
     };
-    format!("{event} {sort} {worker} {other} {field}")
+    let field = recording.fields[report.field];
+    format!("{} {} {worker} {other} {field}", report.event, report.sort)
 }

@@ -26,7 +26,12 @@ pub fn cases(command: &[String]) -> Result<usize, String> {
     for case in cases::all()? {
         let reference = printed(&file::read(&case.file));
         if reference != case.expected {
-            return Err(wrong(&case.name, "the reference", &case.expected, &reference));
+            return Err(wrong(
+                &case.name,
+                "the reference",
+                &case.expected,
+                &reference,
+            ));
         }
         passed += check(command, &case.name, &case.file, &case.expected)?;
     }
@@ -37,7 +42,9 @@ pub fn cases(command: &[String]) -> Result<usize, String> {
 pub fn sample(plan: Plan, command: &[String]) -> Result<usize, String> {
     let mut passed = 0;
     let requests = stream::requests(Plan { depth: 0, ..plan })?;
-    for request in requests.filter(|request| matches!(request.origin, Origin::Random | Origin::Damaged)) {
+    for request in
+        requests.filter(|request| matches!(request.origin, Origin::Random | Origin::Damaged))
+    {
         let expected = printed(&file::read(&request.file));
         passed += check(command, "of the sample", &request.file, &expected)?;
     }
@@ -47,7 +54,11 @@ pub fn sample(plan: Plan, command: &[String]) -> Result<usize, String> {
 /// One run, and for a short file another one that gets a few bytes at a time.
 fn check(command: &[String], name: &str, file: &[u8], expected: &str) -> Result<usize, String> {
     let slowly = file.len() <= MOST_BYTES_SLOWLY;
-    let pipes: &[Pipe] = if slowly { &[Pipe::Fast, Pipe::Slow] } else { &[Pipe::Fast] };
+    let pipes: &[Pipe] = if slowly {
+        &[Pipe::Fast, Pipe::Slow]
+    } else {
+        &[Pipe::Fast]
+    };
     for &pipe in pipes {
         let got = output(command, file, pipe)?;
         if got != expected {
@@ -74,9 +85,14 @@ fn output(command: &[String], file: &[u8], pipe: Pipe) -> Result<String, String>
     let file = file.to_vec();
     let feeder = thread::spawn(move || feed(input, &file, pipe));
     let mut bytes = Vec::new();
-    let read = child.stdout.take().map_or(Ok(0), |mut output| output.read_to_end(&mut bytes));
+    let read = child
+        .stdout
+        .take()
+        .map_or(Ok(0), |mut output| output.read_to_end(&mut bytes));
     read.map_err(|error| format!("the program's output cannot be read: {error}"))?;
-    let status = child.wait().map_err(|error| format!("the program cannot be waited for: {error}"))?;
+    let status = child
+        .wait()
+        .map_err(|error| format!("the program cannot be waited for: {error}"))?;
     let _ = feeder.join();
     if status.code().is_none() {
         return Err(format!("the program ended with {status}"));

@@ -58,22 +58,36 @@ fn full_lengths() -> [usize; 7] {
 impl Request {
     /// All numbers are 32 bits, low byte first: file length, noise, seven table lengths, then the file.
     pub fn bytes(&self) -> Vec<u8> {
-        let numbers = [self.file.len(), self.noise].into_iter().chain(self.lengths);
-        let mut bytes: Vec<u8> = numbers.flat_map(|number| (number as u32).to_le_bytes()).collect();
+        let numbers = [self.file.len(), self.noise]
+            .into_iter()
+            .chain(self.lengths);
+        let mut bytes: Vec<u8> = numbers
+            .flat_map(|number| (number as u32).to_le_bytes())
+            .collect();
         bytes.extend(&self.file);
         bytes
     }
 
     fn lent(&self, lengths: &[usize]) -> Vec<Vec<u32>> {
-        let words = |length| (0..length).map(|i| 1 + ((self.noise + i) % 40) as u32).collect();
+        let words = |length| {
+            (0..length)
+                .map(|i| 1 + ((self.noise + i) % 40) as u32)
+                .collect()
+        };
         lengths.iter().map(|&length| words(length)).collect()
     }
 
     pub fn expected(&self) -> Response {
         let mut early_tables = self.lent(&self.lengths[..3]);
         let mut late_tables = self.lent(&self.lengths[3..]);
-        let (early, late) = finders::answers(&file::read(&self.file), &mut early_tables, &mut late_tables);
-        Response { early, early_tables, late, late_tables }
+        let (early, late) =
+            finders::answers(&file::read(&self.file), &mut early_tables, &mut late_tables);
+        Response {
+            early,
+            early_tables,
+            late,
+            late_tables,
+        }
     }
 }
 
@@ -81,7 +95,10 @@ impl Response {
     /// For each finder the answer's six numbers, then every word of its tables.
     pub fn words(&self) -> Vec<u32> {
         let mut words = Vec::new();
-        for (answer, tables) in [(self.early, &self.early_tables), (self.late, &self.late_tables)] {
+        for (answer, tables) in [
+            (self.early, &self.early_tables),
+            (self.late, &self.late_tables),
+        ] {
             words.extend(answer_numbers(answer));
             words.extend(tables.concat());
         }
@@ -93,16 +110,25 @@ fn answer_numbers(answer: Answer) -> [u32; 6] {
     match answer {
         Answer::Refused(refused) => [0, refused.number, refused.place as u32, 0, 0, 0],
         Answer::Accepted => [1, 0, 0, 0, 0, 0],
-        Answer::Reported(report) => {
-            [2, report.event as u32, report.sort, report.worker as u32, report.other as u32, report.field as u32]
-        }
+        Answer::Reported(report) => [
+            2,
+            report.event as u32,
+            report.sort,
+            report.worker as u32,
+            report.other as u32,
+            report.field as u32,
+        ],
     }
 }
 
 /// The cases first, then all small recordings, then the random ones, so that a mistake shows in a short recording.
 pub fn requests(plan: Plan) -> Result<impl Iterator<Item = Request>, String> {
-    let cases = cases::all()?.into_iter().flat_map(|case| case_requests(case.file));
-    Ok(cases.chain(small_requests(plan)).chain(random_requests(plan)))
+    let cases = cases::all()?
+        .into_iter()
+        .flat_map(|case| case_requests(case.file));
+    Ok(cases
+        .chain(small_requests(plan))
+        .chain(random_requests(plan)))
 }
 
 /// Each case with exact tables, and with each table in turn empty, short by one or longer by one.
@@ -115,8 +141,12 @@ fn case_requests(file: Vec<u8>) -> impl Iterator<Item = Request> {
             lengths
         })
     });
-    let request =
-        move |(noise, lengths)| Request { origin: Origin::Case, file: file.clone(), noise, lengths };
+    let request = move |(noise, lengths)| Request {
+        origin: Origin::Case,
+        file: file.clone(),
+        noise,
+        lengths,
+    };
     [full].into_iter().chain(bent).enumerate().map(request)
 }
 
@@ -125,12 +155,15 @@ fn small_requests(plan: Plan) -> impl Iterator<Item = Request> {
     let two_workers = generate::all_small(2, 1, plan.depth + 1);
     let three_workers = generate::all_small(3, 1, plan.depth);
     let two_fields = generate::all_small(2, 2, plan.depth.saturating_sub(1));
-    two_workers.chain(three_workers).chain(two_fields).map(move |recording| Request {
-        origin: Origin::Small,
-        file: file::write(&recording),
-        noise: random.below(65_536),
-        lengths: full_lengths(),
-    })
+    two_workers
+        .chain(three_workers)
+        .chain(two_fields)
+        .map(move |recording| Request {
+            origin: Origin::Small,
+            file: file::write(&recording),
+            noise: random.below(65_536),
+            lengths: full_lengths(),
+        })
 }
 
 fn random_requests(plan: Plan) -> impl Iterator<Item = Request> {
@@ -146,7 +179,12 @@ fn random_request(random: &mut Random) -> Request {
         false => (Origin::Random, file::write(&recording)),
     };
     let noise = random.below(65_536);
-    Request { origin, file, noise, lengths: random_lengths(random) }
+    Request {
+        origin,
+        file,
+        noise,
+        lengths: random_lengths(random),
+    }
 }
 
 /// Mostly exact or longer, so that verdicts are reached; in some requests one table is short.

@@ -34,10 +34,16 @@ impl Table {
                     words[worker] = history.stretch_number(worker, n) as u32;
                 }
             }
-            Table::Writer => each_field(&mut words, history, |field| writer_word(history, field, n)),
+            Table::Writer => {
+                each_field(&mut words, history, |field| writer_word(history, field, n))
+            }
             Table::Version => each_field(&mut words, history, |field| version(history, field, n)),
-            Table::Readers => each_pair(&mut words, history, |field, worker| readers_word(history, field, worker, n)),
-            Table::Log => each_pair(&mut words, history, |field, worker| log_word(history, field, worker, n)),
+            Table::Readers => each_pair(&mut words, history, |field, worker| {
+                readers_word(history, field, worker, n)
+            }),
+            Table::Log => each_pair(&mut words, history, |field, worker| {
+                log_word(history, field, worker, n)
+            }),
         }
         words
     }
@@ -59,7 +65,10 @@ fn each_pair(words: &mut [u32], history: &History, word: impl Fn(usize, usize) -
 
 /// The event number of the last write of the field before event n.
 fn last_write(history: &History, field: usize, n: usize) -> Option<usize> {
-    history.workers().filter_map(|worker| history.writes_before(worker, field, n).last().copied()).max()
+    history
+        .workers()
+        .filter_map(|worker| history.writes_before(worker, field, n).last().copied())
+        .max()
 }
 
 /// 16 times the stretch number, plus the worker, of the last write; 0 if none.
@@ -72,17 +81,26 @@ fn writer_word(history: &History, field: usize, n: usize) -> usize {
 
 /// The number of the worker's latest stretch that read the field; 0 if none.
 fn readers_word(history: &History, field: usize, worker: usize, n: usize) -> usize {
-    history.reads_before(worker, field, n).last().map_or(0, |&read| history.stretch_number(worker, read))
+    history
+        .reads_before(worker, field, n)
+        .last()
+        .map_or(0, |&read| history.stretch_number(worker, read))
 }
 
 /// How many stretches have written the field.
 fn version(history: &History, field: usize, n: usize) -> usize {
-    history.workers().map(|worker| stretches_that_wrote(history, field, worker, n)).sum()
+    history
+        .workers()
+        .map(|worker| stretches_that_wrote(history, field, worker, n))
+        .sum()
 }
 
 fn stretches_that_wrote(history: &History, field: usize, worker: usize, n: usize) -> usize {
     let writes = history.writes_before(worker, field, n);
-    let mut stretches: Vec<usize> = writes.iter().map(|&write| history.stretch_number(worker, write)).collect();
+    let mut stretches: Vec<usize> = writes
+        .iter()
+        .map(|&write| history.stretch_number(worker, write))
+        .collect();
     stretches.dedup();
     stretches.len()
 }
@@ -91,9 +109,11 @@ fn stretches_that_wrote(history: &History, field: usize, worker: usize, n: usize
 /// 1 plus the version at the first such read; else 0.
 fn log_word(history: &History, field: usize, worker: usize, n: usize) -> usize {
     let own_writes = history.open_writes(worker, field, n);
-    history
-        .open_reads(worker, field, n)
-        .iter()
-        .find(|&&read| !last_write(history, field, read).is_some_and(|write| own_writes.contains(&write)))
-        .map_or(0, |&read| 1 + version(history, field, read))
+    let after_own_write = |read: usize| match last_write(history, field, read) {
+        Some(write) => own_writes.contains(&write),
+        None => false,
+    };
+    let reads = history.open_reads(worker, field, n);
+    let first = reads.iter().find(|&&read| !after_own_write(read));
+    first.map_or(0, |&read| 1 + version(history, field, read))
 }

@@ -84,17 +84,27 @@ impl<'a> History<'a> {
 
     /// The first event number that lies in the worker's stretch open at event n.
     fn stretch_start(&self, worker: usize, n: usize) -> usize {
-        self.crossings_before(worker, n).last().map_or(0, |&crossing| crossing + 1)
+        self.crossings_before(worker, n)
+            .last()
+            .map_or(0, |&crossing| crossing + 1)
     }
 
     /// Reads of the field before event n by the worker's stretch open at n.
     pub fn open_reads(&self, worker: usize, field: usize, n: usize) -> &[usize] {
-        between(&self.reads[self.pair(worker, field)], self.stretch_start(worker, n), n)
+        between(
+            &self.reads[self.pair(worker, field)],
+            self.stretch_start(worker, n),
+            n,
+        )
     }
 
     /// Writes of the field before event n by the worker's stretch open at n.
     pub fn open_writes(&self, worker: usize, field: usize, n: usize) -> &[usize] {
-        between(&self.writes[self.pair(worker, field)], self.stretch_start(worker, n), n)
+        between(
+            &self.writes[self.pair(worker, field)],
+            self.stretch_start(worker, n),
+            n,
+        )
     }
 
     pub fn reads_before(&self, worker: usize, field: usize, n: usize) -> &[usize] {
@@ -107,39 +117,62 @@ impl<'a> History<'a> {
 
     /// The lowest other worker whose open stretch has written the field.
     fn open_writer(&self, worker: usize, field: usize, n: usize) -> Option<usize> {
-        self.others(worker).find(|&other| !self.open_writes(other, field, n).is_empty())
+        self.others(worker)
+            .find(|&other| !self.open_writes(other, field, n).is_empty())
     }
 
     /// The lowest other worker whose open stretch has read the field.
     fn open_reader(&self, worker: usize, field: usize, n: usize) -> Option<usize> {
-        self.others(worker).find(|&other| !self.open_reads(other, field, n).is_empty())
+        self.others(worker)
+            .find(|&other| !self.open_reads(other, field, n).is_empty())
     }
 
     /// The clash of event n with an open stretch that has written the field: sort 1 or 3.
     fn clash_with_writer(&self, n: usize) -> Option<Report> {
-        let Event { kind, worker, field } = self.events()[n];
+        let Event {
+            kind,
+            worker,
+            field,
+        } = self.events()[n];
         let sort = match kind {
             Kind::Read => READ_AFTER_WRITE,
             Kind::Write => WRITE_AFTER_WRITE,
             Kind::Crossing => return None,
         };
         let other = self.open_writer(worker, field, n)?;
-        Some(Report { event: n, sort, worker, other, field })
+        Some(Report {
+            event: n,
+            sort,
+            worker,
+            other,
+            field,
+        })
     }
 
     /// The clash of a write at event n with an open stretch that has read the field: sort 2.
     fn clash_with_reader(&self, n: usize) -> Option<Report> {
-        let Event { kind, worker, field } = self.events()[n];
+        let Event {
+            kind,
+            worker,
+            field,
+        } = self.events()[n];
         if kind != Kind::Write {
             return None;
         }
         let other = self.open_reader(worker, field, n)?;
-        Some(Report { event: n, sort: WRITE_AFTER_READ, worker, other, field })
+        Some(Report {
+            event: n,
+            sort: WRITE_AFTER_READ,
+            worker,
+            other,
+            field,
+        })
     }
 
     /// If a write meets both, sort 1 is reported.
     fn clash(&self, n: usize) -> Option<Report> {
-        self.clash_with_writer(n).or_else(|| self.clash_with_reader(n))
+        self.clash_with_writer(n)
+            .or_else(|| self.clash_with_reader(n))
     }
 
     /// The lowest-numbered event that clashes; nothing if the recording is accepted.
@@ -160,7 +193,13 @@ impl<'a> History<'a> {
     /// The lowest field that is stale for the worker at event n, or at the end if n is the event count.
     fn stale_read(&self, worker: usize, n: usize) -> Option<Report> {
         let field = self.fields().find(|&field| self.stale(worker, field, n))?;
-        Some(Report { event: n, sort: WRITE_AFTER_READ, worker, other: NOT_RECORDED, field })
+        Some(Report {
+            event: n,
+            sort: WRITE_AFTER_READ,
+            worker,
+            other: NOT_RECORDED,
+            field,
+        })
     }
 
     fn late_at(&self, n: usize) -> Option<Report> {
@@ -172,11 +211,118 @@ impl<'a> History<'a> {
     }
 
     fn late_at_the_end(&self) -> Option<Report> {
-        self.workers().find_map(|worker| self.stale_read(worker, self.events().len()))
+        self.workers()
+            .find_map(|worker| self.stale_read(worker, self.events().len()))
     }
 
     /// The first late report in event order; nothing if the recording is accepted.
     pub fn late(&self) -> Option<Report> {
-        (0..self.events().len()).find_map(|n| self.late_at(n)).or_else(|| self.late_at_the_end())
+        (0..self.events().len())
+            .find_map(|n| self.late_at(n))
+            .or_else(|| self.late_at_the_end())
+    }
+}
+
+#[cfg(test)]
+mod tests {
+    use super::*;
+    use crate::generate::{self, Shape};
+    use crate::random::Random;
+
+    fn recordings() -> impl Iterator<Item = Recording> {
+        let mut random = Random::new(7);
+        let shape = move |_| {
+            let shape = Shape::random(&mut random);
+            generate::recording(
+                &Shape {
+                    events: shape.events.min(200),
+                    ..shape
+                },
+                &mut random,
+            )
+        };
+        generate::all_small(2, 1, 5)
+            .chain(generate::all_small(3, 1, 4))
+            .chain((0..2000).map(shape))
+    }
+
+    /// A read (or write) of the field by the worker at some i before n, and no crossing of the worker in between.
+    fn open_access(events: &[Event], access: Event, n: usize) -> bool {
+        let crossing = Event {
+            kind: Kind::Crossing,
+            field: 0,
+            ..access
+        };
+        (0..n).any(|i| events[i] == access && !events[i..n].contains(&crossing))
+    }
+
+    #[test]
+    fn open_accesses_are_those_with_no_crossing_since() {
+        for recording in recordings() {
+            let history = History::of(&recording);
+            let n = recording.events.len();
+            for (worker, field) in history
+                .workers()
+                .flat_map(|worker| (0..2).map(move |field| (worker, field)))
+            {
+                if field < recording.fields.len() {
+                    let read = Event {
+                        kind: Kind::Read,
+                        worker,
+                        field,
+                    };
+                    let write = Event {
+                        kind: Kind::Write,
+                        worker,
+                        field,
+                    };
+                    assert_eq!(
+                        !history.open_reads(worker, field, n).is_empty(),
+                        open_access(&recording.events, read, n)
+                    );
+                    assert_eq!(
+                        !history.open_writes(worker, field, n).is_empty(),
+                        open_access(&recording.events, write, n)
+                    );
+                }
+            }
+        }
+    }
+
+    /// The event number of the worker's next crossing after event n, or the event count.
+    fn next_crossing(history: &History, worker: usize, n: usize) -> usize {
+        let end = history.events().len();
+        between(&history.crossings[worker], n + 1, end)
+            .first()
+            .copied()
+            .unwrap_or(end)
+    }
+
+    #[test]
+    fn the_late_finder_meets_the_third_demand() {
+        for recording in recordings() {
+            let history = History::of(&recording);
+            match (history.early(), history.late()) {
+                (None, None) => (),
+                (Some(early), Some(late)) => meets_the_third_demand(&history, early, late),
+                _ => panic!("one verdict accepts and one reports {recording:?}"),
+            }
+        }
+    }
+
+    fn meets_the_third_demand(history: &History, early: Report, late: Report) {
+        assert!(early.event <= late.event, "{early:?} {late:?}");
+        if early.sort != WRITE_AFTER_READ {
+            assert_eq!(early, late);
+            return;
+        }
+        let has_read = |&reader: &usize| {
+            let reads = history.open_reads(reader, early.field, early.event);
+            !reads.is_empty()
+        };
+        for reader in history.others(early.worker).filter(has_read) {
+            let latest = next_crossing(history, reader, early.event);
+            assert!(late.event <= latest, "{early:?} {late:?}");
+        }
     }
 }
