@@ -143,22 +143,26 @@ fn passed(runs: usize) -> Result<(), String> {
     write_out(format!("{runs} runs, all as expected\n").as_bytes())
 }
 
+/// Before the first run, so that a run that never ends can be repeated.
+fn tell_seed(plan: Plan) -> Result<(), String> {
+    write_out(format!("seed {}\n", plan.seed).as_bytes())
+}
+
 fn sample(options: &Options) -> Result<(), String> {
     let plan = Plan {
         count: options.count.unwrap_or(200),
         ..options.plan()
     };
-    println!("seed {}", plan.seed);
+    tell_seed(plan)?;
     passed(run::sample(plan, &options.run)?)
 }
 
 fn compare(options: &Options) -> Result<(), String> {
     let plan = options.plan();
-    println!("seed {}", plan.seed);
+    tell_seed(plan)?;
     let tally = compare::compare(plan, &options.run)?;
-    print!("{tally}");
-    println!("{} files compared, all equal", tally.compared);
-    Ok(())
+    let compared = tally.compared;
+    write_out(format!("{tally}{compared} files compared, all equal\n").as_bytes())
 }
 
 fn shares(options: &Options) -> Result<(), String> {
@@ -166,8 +170,7 @@ fn shares(options: &Options) -> Result<(), String> {
     for request in stream::requests(options.plan())? {
         tally.count(&request, &request.expected());
     }
-    print!("{tally}");
-    Ok(())
+    write_out(tally.to_string().as_bytes())
 }
 
 fn pick(options: &Options) -> Result<(), String> {

@@ -200,3 +200,22 @@ fn random_lengths(random: &mut Random) -> [usize; 7] {
     }
     lengths
 }
+
+#[cfg(test)]
+mod tests {
+    use super::*;
+
+    #[test]
+    fn requests_stay_within_the_limits_that_subjects_may_count_on() {
+        let plan = Plan {
+            seed: 3,
+            count: 5000,
+            depth: 2,
+        };
+        for request in requests(plan).expect("the case files are good") {
+            assert!(request.file.len() <= 70_000);
+            assert!(request.noise < 65_536);
+            assert!(request.lengths.iter().all(|&length| length <= 8300));
+        }
+    }
+}
