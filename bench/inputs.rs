@@ -1,0 +1,64 @@
+//! The recordings that the finders are timed on: 16,000 events, mostly reads, none of them a clash.
+
+use reference::file::{self, Kind, Recording};
+use reference::generate::{self, Care, Shape};
+use reference::random::Random;
+
+const SEED: u64 = 16_000;
+
+pub struct Input {
+    pub name: &'static str,
+    pub recording: Recording,
+    pub file: Vec<u8>,
+}
+
+/// Two and sixteen workers, each with few and with many crossings.
+pub fn all() -> Vec<Input> {
+    vec![
+        input("2 workers, few crossings", 2, 2),
+        input("2 workers, many crossings", 2, 100),
+        input("16 workers, few crossings", 16, 2),
+        input("16 workers, many crossings", 16, 100),
+    ]
+}
+
+fn input(name: &'static str, workers: usize, crossings: usize) -> Input {
+    let shape = Shape {
+        workers,
+        fields: file::MOST_FIELDS,
+        events: file::MOST_EVENTS,
+        crossings,
+        writes: 100,
+        hot_fields: 8,
+        runs: 50,
+        care: Care::Careful,
+        care_ends: file::MOST_EVENTS,
+    };
+    let recording = generate::recording(&shape, &mut Random::new(SEED));
+    let file = file::write(&recording);
+    Input {
+        name,
+        recording,
+        file,
+    }
+}
+
+impl Input {
+    /// How many events of each kind there are.
+    pub fn describe(&self) -> String {
+        let count = |kind| {
+            self.recording
+                .events
+                .iter()
+                .filter(|event| event.kind == kind)
+                .count()
+        };
+        let (reads, writes, crossings) =
+            (count(Kind::Read), count(Kind::Write), count(Kind::Crossing));
+        format!(
+            "{}: {} fields, {reads} reads, {writes} writes, {crossings} crossings",
+            self.name,
+            self.recording.fields.len()
+        )
+    }
+}

@@ -1,0 +1,209 @@
+//! Times the finders on the inputs, in nanoseconds for each event, and says on which machine and input.
+
+use std::io::Write;
+use std::process::ExitCode;
+use std::time::Instant;
+
+mod baseline;
+mod inputs;
+
+use baseline::Answer;
+use inputs::Input;
+
+const USAGE: &str =
+    "usage: bench [REPETITIONS]          times every finder on every input (2000 repetitions)
+       bench --input NUMBER > file  writes the file of an input, counted from 0";
+
+/// Answers on a file with tables of its own, so that a repetition finds them as the one before left them.
+type Find = Box<dyn FnMut(&[u8]) -> Answer>;
+
+struct Finder {
+    name: &'static str,
+    answer: Find,
+}
+
+fn finders() -> Vec<Finder> {
+    vec![
+        Finder {
+            name: "early baseline",
+            answer: early_baseline(),
+        },
+        Finder {
+            name: "late baseline",
+            answer: late_baseline(),
+        },
+    ]
+}
+
+fn early_baseline() -> Find {
+    let (mut stretch, mut writer, mut readers) = (vec![0; 16], vec![0; 512], vec![0; 8192]);
+    Box::new(move |file| baseline::early(file, &mut stretch, &mut writer, &mut readers))
+}
+
+fn late_baseline() -> Find {
+    let (mut stretch, mut writer) = (vec![0; 16], vec![0; 512]);
+    let (mut version, mut log) = (vec![0; 512], vec![0; 8192]);
+    Box::new(move |file| baseline::late(file, &mut stretch, &mut writer, &mut version, &mut log))
+}
+
+/// The fastest and the middle time of a run, in nanoseconds for each event.
+struct Times {
+    fastest: f64,
+    middle: f64,
+}
+
+fn time(finder: &mut Finder, input: &Input, repetitions: usize) -> Result<Times, String> {
+    let mut times = Vec::new();
+    for _ in 0..repetitions {
+        let start = Instant::now();
+        let answer = (finder.answer)(&input.file);
+        times.push(start.elapsed().as_nanos() as f64 / input.recording.events.len() as f64);
+        if answer != Answer::Accepted {
+            return Err(format!(
+                "{} does not accept {}: {answer:?}",
+                finder.name, input.name
+            ));
+        }
+    }
+    times.sort_by(f64::total_cmp);
+    Ok(Times {
+        fastest: times[0],
+        middle: times[times.len() / 2],
+    })
+}
+
+fn machine() -> String {
+    let information = std::fs::read_to_string("/proc/cpuinfo").unwrap_or_default();
+    let model = information
+        .lines()
+        .find(|line| line.starts_with("model name"))
+        .and_then(|line| line.split(": ").nth(1));
+    format!(
+        "{}, {}",
+        std::env::consts::ARCH,
+        model.unwrap_or("model not known")
+    )
+}
+
+fn time_all(repetitions: usize) -> Result<(), String> {
+    println!("machine: {}", machine());
+    println!("{repetitions} repetitions; nanoseconds for each event, fastest and middle");
+    for input in inputs::all() {
+        println!("{}", input.describe());
+        for mut finder in finders() {
+            let Times { fastest, middle } = time(&mut finder, &input, repetitions)?;
+            println!("  {:<16} {fastest:>7.2} {middle:>7.2}", finder.name);
+        }
+    }
+    Ok(())
+}
+
+fn write_input(number: &str) -> Result<(), String> {
+    let inputs = inputs::all();
+    let input = number
+        .parse()
+        .ok()
+        .and_then(|number: usize| inputs.get(number))
+        .ok_or(USAGE)?;
+    std::io::stdout()
+        .write_all(&input.file)
+        .map_err(|error| format!("the file cannot be written: {error}"))
+}
+
+fn command(arguments: &[&str]) -> Result<(), String> {
+    match arguments {
+        [] => time_all(2000),
+        ["--input", number] => write_input(number),
+        [repetitions] => time_all(
+            repetitions
+                .parse()
+                .ok()
+                .filter(|&repetitions| repetitions > 0)
+                .ok_or(USAGE)?,
+        ),
+        _ => Err(USAGE.to_string()),
+    }
+}
+
+fn main() -> ExitCode {
+    let arguments: Vec<String> = std::env::args().skip(1).collect();
+    let arguments: Vec<&str> = arguments.iter().map(String::as_str).collect();
+    match command(&arguments) {
+        Ok(()) => ExitCode::SUCCESS,
+        Err(problem) => {
+            eprintln!("{problem}");
+            ExitCode::FAILURE
+        }
+    }
+}
+
+#[cfg(test)]
+mod tests {
+    use super::*;
+    use reference::finders::Answer as Expected;
+    use reference::stream::{self, Plan};
+
+    fn of_reference(answer: Expected) -> Answer {
+        match answer {
+            Expected::Refused(refused) => Answer::Refused {
+                number: refused.number,
+                place: refused.place,
+            },
+            Expected::Accepted => Answer::Accepted,
+            Expected::Reported(report) => Answer::Reported {
+                event: report.event,
+                sort: report.sort,
+                worker: report.worker,
+                other: report.other,
+                field: report.field,
+            },
+        }
+    }
+
+    #[test]
+    fn the_baselines_answer_as_the_reference() {
+        let plan = Plan {
+            seed: 1,
+            count: 3000,
+            depth: 3,
+        };
+        for request in stream::requests(plan).expect("the case files are good") {
+            let mut tables = request.lengths.map(|length| vec![5; length]);
+            let [stretch, writer, readers, late_stretch, late_writer, version, log] = &mut tables;
+            let early = baseline::early(&request.file, stretch, writer, readers);
+            let late = baseline::late(&request.file, late_stretch, late_writer, version, log);
+            let expected = request.expected();
+            assert_eq!(early, of_reference(expected.early));
+            assert_eq!(late, of_reference(expected.late));
+            compare_tables(&request, &tables);
+        }
+    }
+
+    /// Tables that were refused keep their words; else the full length is the reference's.
+    fn compare_tables(request: &stream::Request, tables: &[Vec<u32>]) {
+        let expected = request.expected();
+        let answers = [expected.early; 3].into_iter().chain([expected.late; 4]);
+        let shown = expected.early_tables.iter().chain(&expected.late_tables);
+        for (((table, words), answer), shown) in
+            stream::lent_tables().zip(tables).zip(answers).zip(shown)
+        {
+            let full = if matches!(answer, Expected::Refused(_)) {
+                0
+            } else {
+                table.full_length()
+            };
+            assert_eq!(words[..full], shown[..full]);
+            assert!(words[full..].iter().all(|&word| word == 5));
+        }
+    }
+
+    #[test]
+    fn both_verdicts_accept_every_input() {
+        for input in inputs::all() {
+            assert_eq!(input.recording.events.len(), 16_000);
+            for mut finder in finders() {
+                assert_eq!((finder.answer)(&input.file), Answer::Accepted);
+            }
+        }
+    }
+}
