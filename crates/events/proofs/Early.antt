@@ -16,7 +16,7 @@ use Rattle.events.specs.Reports.{LowestOther, Names, names-written, name
 use Rattle.events.proofs.Tests.{bool, same, T-of, of-T}
 use Rattle.events.proofs.Search.{found, lowest-at, lowest-below, lowest-none, lowest-is}
 use Rattle.events.proofs.Histories.{ActsWithin, Sound, before-within}
-use Rattle.events.proofs.Stretches.{unused-read, unused-written}
+use Rattle.events.proofs.Stretches.{crossing-calm, unused-read, unused-written}
 use Rattle.events.proofs.Walks.{not-both, Walked, to-end, stops, walked}
 
 -- the search for the lowest other worker that did it, where no worker from 16 on did
@@ -77,9 +77,6 @@ module _ (h : History) (w f : ℕ) (unwritten : (u : ℕ) → (u ≡ w → ⊥) 
   calm-write unread (write-after-write {u = u} ne t) = unwritten u ne t
   calm-write unread (write-after-read {u = u} ne t) = unread u ne t
 
-calm-crossing : {h : History} {w : ℕ} → Clash h (crosses w) → ⊥
-calm-crossing c = elim c [ ]
-
 module _ (W F : ℕ) (few : W ≤ 16) (h : History) (inside : ActsWithin W F h) where
   written-16 : (f u : ℕ) → 16 ≤ u → hasWritten h u f ≡ false
   written-16 f u l = unused-written W F h inside u f (omega arith)
@@ -112,7 +109,7 @@ module _ (W F : ℕ) (few : W ≤ 16) (h : History) (inside : ActsWithin W F h) 
       found (otherReader h w f)
       (λ u s. met 2 w u f (rw (r, s)) (names-read (no-writer w f r) (reader-is w f u s)))
       (λ s. calm (rw (r, s)) (calm-write h w f (no-writer w f r) (no-reader w f s))))
-  looked n (crosses w) = calm refl calm-crossing
+  looked n (crosses w) = calm refl crossing-calm
 
   pub event-looked : (n : ℕ) (e : List Act) → EventLooked h n e (firstOf (earlyLook h n) e)
   unfolding firstOf

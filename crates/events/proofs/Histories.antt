@@ -39,6 +39,16 @@ acts-sound W F (Read w f) i = record { worker = w .0; own = (refl, tt); inside =
 acts-sound W F (Write w f) i = record { worker = w .0; own = (refl, tt); inside = (i, tt) }
 acts-sound W F (Crossing w) i = record { worker = w .0; own = (refl, tt); inside = (i, tt) }
 
+-- more workers or fields do no harm
+pub within-wider : (W F G : ℕ) (es : List Event) → F ≤ G → Within W F es → Within W G es
+within-wider W F G [] l i = tt
+within-wider W F G (e ∷ es) l i = (one e (i .0), within-wider W F G es l (i .1))
+  where
+    one : (e : Event) → EventWithin W F e → EventWithin W G e
+    one (Read w f) j = (j .0, omega arith)
+    one (Write w f) j = (j .0, omega arith)
+    one (Crossing w) j = j
+
 pub recording-sound : (W F : ℕ) (es : List Event) → Within W F es → Sound W F (recordingOf es)
 unfolding recordingOf
 recording-sound W F [] i = tt

@@ -17,7 +17,7 @@ use Rattle.events.specs.Reports.{LowestOther, Reports}
 use Rattle.events.proofs.Tests.{bool, same, T-of, of-T}
 use Rattle.events.proofs.Search.{found, lowest-at, lowest-none, none-pass}
 use Rattle.events.proofs.Histories.{ActWithin, ActsWithin, ActsOf, Sound, event-sound, before-next, before-within, No, calm-before}
-use Rattle.events.proofs.Stretches.{other-read, own-clash, unused-read, unused-written}
+use Rattle.events.proofs.Stretches.{other-read, own-clash, some-on-written, unused-read, unused-written}
 use Rattle.events.proofs.Early.{other-none, other-at}
 use Rattle.events.proofs.Walks.{verdict, not-both, Walked, to-end, stops, walked}
 
@@ -205,17 +205,9 @@ module _ (W F : ℕ) (few : W ≤ 16) (es : Recording) (sound : Sound W F es) wh
   calm-passed : (k : ℕ) → ((m : ℕ) → m < suc k → SomeAt Clash es m → ⊥) → lateAt k ≡ accepted
   calm-passed k z = go (late-at k)
     where
-      clashed : Some (OnWritten (before [] es k)) (getD es k []) → SomeAt Clash es k
-      clashed s = some s
-        where
-          some : {e : List Act} → Some (OnWritten (before [] es k)) e → Some (Clash (before [] es k)) e
-          some (here (write-on-written ne t)) = here (write-after-write ne t)
-          some (here (read-on-written ne t)) = here (read-after-write ne t)
-          some (later s) = later (some s)
-
       go : LateLooked F (before [] es k) k (getD es k []) (lateAt k) → lateAt k ≡ accepted
       go (passed v _ _) = v
-      go (stopped s w u f v (on-written o)) = absurd (z k (omega arith) (clashed o))
+      go (stopped s w u f v (on-written o)) = absurd (z k (omega arith) (some-on-written o))
       go (stopped s w u f v (stale w′ f′ q)) =
           absurd (T-of (sym (calm-fresh (before [] es k) (calm-to k (λ m l. z m (omega arith))) w′ f′) ∙ q))
 

@@ -12,7 +12,7 @@ use Rattle.events.specs.Acts.{Act, History, recordingOf, entered, before
 use Rattle.events.specs.Stretches.{stretchOf, hasRead, hasWritten, staleRead}
 use Rattle.events.specs.Clashes.{Clash, write-after-write, write-after-read, read-after-write, OnWritten, write-on-written, read-on-written, Some, here, later}
 use Rattle.events.proofs.Tests.{bool, same, T-of}
-use Rattle.events.proofs.Histories.{ActsWithin, event-short, before-next, No}
+use Rattle.events.proofs.Histories.{ActsWithin, event-short, before-next}
 
 -- each crossing raises a stretch's number by one, from 1 on
 pub stretch-above : (h : History) (w : ℕ) → 0 < stretchOf h w
@@ -73,13 +73,10 @@ pub own-on-written : (h : History) (a b : Act) → workerOf b ≡ workerOf a →
 own-on-written h a b q (write-on-written {u = u} {f = f} ne t) = write-on-written ne (rw (other-written a h u f (λ k. ne (k ∙ sym q))) at t)
 own-on-written h a b q (read-on-written {u = u} {f = f} ne t) = read-on-written ne (rw (other-written a h u f (λ k. ne (k ∙ sym q))) at t)
 
-pub on-written-clash : {h : History} {a : Act} → OnWritten h a → Clash h a
-on-written-clash (write-on-written ne t) = write-after-write ne t
-on-written-clash (read-on-written ne t) = read-after-write ne t
-
-pub no-on-written : (h : History) → No Clash h → No OnWritten h
-no-on-written [] c = tt
-no-on-written (a ∷ h) c = (λ o. c .0 (on-written-clash o), no-on-written h (c .1))
+pub some-on-written : {h : History} {e : List Act} → Some (OnWritten h) e → Some (Clash h) e
+some-on-written (here (write-on-written ne t)) = here (write-after-write ne t)
+some-on-written (here (read-on-written ne t)) = here (read-after-write ne t)
+some-on-written (later s) = later (some-on-written s)
 
 pub crossing-calm : {h : History} {w : ℕ} → Clash h (crosses w) → ⊥
 crossing-calm c = elim c [ ]

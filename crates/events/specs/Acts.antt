@@ -53,3 +53,9 @@ EventWithin W F (Crossing w) = w .0 < W
 abbrev pub Within : ℕ → ℕ → List Event → Type 0
 Within W F [] = Unit {0}
 Within W F (e ∷ es) = EventWithin W F e × Within W F es
+
+-- whose event it is
+abbrev pub eventWorker : Event → ℕ
+eventWorker (Read w f) = w .0
+eventWorker (Write w f) = w .0
+eventWorker (Crossing w) = w .0

@@ -8,7 +8,14 @@ use lib.Dec.{eqb}
 use lib.ListN.{getD}
 use borrow.Author.Tests.{lt-ltb, le-ltb, eq-eqb, ne-eqb}
 use Rattle.sorts.specs.Words.{stretchIn, workerIn}
+use Rattle.sorts.specs.declared.Worker.{Worker}
+use Rattle.sorts.specs.declared.Field.{Field}
 use Rattle.events.specs.Search.{at, none}
+use Rattle.events.specs.Verdicts as papers
+use Rattle.tables.specs.declared.Verdict.{Verdict}
+use Rattle.tables.specs.declared.Verdict.the-variants.{Accepted, Reported}
+use Rattle.tables.specs.declared.Answer.the-variants.{Accepted as Answer-accepted, Reported as Answer-reported}
+use Rattle.tables.specs.Answers.{verdictOf, judged, saidBy}
 use Rattle.tables.specs.Steps.{isOpen, writerNamed}
 
 module _ (W : ℕ) (S : List ℕ) (w n : ℕ) where
@@ -36,3 +43,14 @@ module _ (W : ℕ) (S : List ℕ) (word w u s : ℕ) (b : Bool) (eu : u ≡ work
 pub writer-self : (W : ℕ) (S : List ℕ) (word w u : ℕ) → u ≡ workerIn word → u ≡ w → none ≡ writerNamed W S word w
 unfolding writerNamed
 writer-self W S word w u eu q = rw (eq-eqb (workerIn word) w (omega arith))
+
+-- the answer that a verdict makes
+module _ (v : Verdict) where
+  pub answer-accepted : v ≡ Accepted → saidBy Answer-accepted ≡ judged (verdictOf v)
+  answer-accepted q = rw q
+
+  pub answer-reported : (n s : ℕ) (w u : Worker) (f : Field) → v ≡ Reported n s w u f → saidBy (Answer-reported n s w u f) ≡ judged (verdictOf v)
+  answer-reported n s w u f q = rw q
+
+pub judged-same : {v v′ : papers.Verdict} → judged v ≡ judged v′ → v ≡ v′
+judged-same q = cc

@@ -11,7 +11,7 @@ use lib.Seq.{getD-set-same, getD-set-other, getD-append-add, getD-take, getD-dro
 use borrow.Author.Fill.{fill-more}
 use borrow.Author.Tests.{eq-eqb, ne-eqb, ltb-true, ltb-false}
 use Rattle.events.proofs.Tests.{bool, same}
-use Rattle.tables.specs.Lent.{listed, showing, cells, filled}
+use Rattle.tables.specs.Lent.{listed, showing, cells, filled, Shown}
 
 -- a table that is filled from the front, and has come to word i
 module _ (v : ℕ) (d : List ℕ) where
@@ -51,13 +51,6 @@ module _ (v : ℕ) (d : List ℕ) where
 -- a word after a store
 pub getD-set : (l : List ℕ) (i a j : ℕ) → i < length l → getD (set l i a) j 0 ≡ cond (eqb i j) a (getD l j 0)
 getD-set l i a j b = same i j (λ q t. rw (t, ← q) (getD-set-same l i a 0 b)) (λ q t. rw t (getD-set-other l i j a 0 (λ k. q (sym k))))
-
--- The table l, lent as lent, shows these words in its full length, and past it is as it was.
-pub record Shown (full : ℕ) (word : ℕ → ℕ) (lent l : List ℕ) : Type 0 where
-  pub long : full ≤ length lent
-  pub same-length : length l ≡ length lent
-  pub words : (i : ℕ) → i < full → getD l i 0 ≡ word i
-  pub past : drop full l ≡ drop full lent
 
 length-listed : (word : ℕ → ℕ) (i k : ℕ) → length (listed word i k) ≡ k
 unfolding listed
@@ -152,3 +145,21 @@ eqb-cell f w i b =
     (λ q′ t′. rw t′ (eq-eqb (16 * f + w) i (omega arith)))
     (λ q′ t′. rw t′ (ne-eqb (16 * f + w) i (λ k. q′ (omega arith))))))
     (λ q t. rw t (ne-eqb (16 * f + w) i (λ k. q (omega arith))))
+
+-- what a table shows after it showed something else
+pub shown-since : (full : ℕ) (word word′ : ℕ → ℕ) (lent l l′ : List ℕ) → Shown full word lent l → Shown full word′ l l′ → Shown full word′ lent l′
+shown-since full word word′ lent l l′ s s′ = record {
+  long = s .long;
+  same-length = s′ .same-length ∙ s .same-length;
+  words = s′ .words;
+  past = s′ .past ∙ s .past;
+}
+
+-- of itself
+pub shown-itself : (full : ℕ) (word : ℕ → ℕ) (lent l : List ℕ) → Shown full word lent l → Shown full word l l
+shown-itself full word lent l s = record {
+  long = omega (arith, s .long, s .same-length);
+  same-length = refl;
+  words = s .words;
+  past = refl;
+}

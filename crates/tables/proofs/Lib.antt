@@ -2,3 +2,4 @@
 pub mod Lent
 pub mod Laws
 pub mod Shown
+pub mod Files

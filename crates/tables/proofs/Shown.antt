@@ -21,9 +21,9 @@ use Rattle.events.proofs.Search.{lowest-only}
 use Rattle.events.proofs.Histories.{ActWithin, ActsWithin, No}
 use Rattle.events.proofs.Stretches.{stretch-above, unused-written}
 use Rattle.events.proofs.Words.{has-written}
-use Rattle.tables.specs.Lent.{filled}
+use Rattle.tables.specs.Lent.{filled, Shown}
 use Rattle.tables.specs.Steps.{isOpen, writerNamed, writerBy, stretchWith, writerWith}
-use Rattle.tables.proofs.Lent.{Shown, shown-same, shown-set, shown-filled, shown-filled-more}
+use Rattle.tables.proofs.Lent.{shown-same, shown-set, shown-filled, shown-filled-more}
 use Rattle.tables.proofs.Laws.{open-over}
 
 -- a number of a worker below the count is open exactly if it is the stretch word

@@ -4,7 +4,7 @@ ghost use mathlib.Core.Path.{_≡_};
 ghost use Prim.Native.Nat.{_+_, _*_, _<_, _≤_};
 ghost use lib.ListN.{length, getD, set};
 ghost use Rattle.sorts.specs.Words.{joined};
-ghost use Rattle.tables.specs.Answers.{foundOf};
+ghost use Rattle.tables.specs.Answers.{foundOf, verdictOf, judged, saidBy};
 ghost use Rattle.tables.specs.Steps.{isOpen, writerBy};
 ghost use Rattle.tables.specs.Lent.{filled};
 use sorts::Epoch;
@@ -32,6 +32,16 @@ pub enum Answer {
     Accepted,
     // Event, sort, worker, other worker, field.
     Reported(u32, u32, Worker, Worker, Field),
+}
+
+// The answer to a file whose recording got this verdict.
+pub fn answer_to(v: Verdict) -> Answer
+    ensures { λ r. ⌜ saidBy r ≡ judged (verdictOf v) ⌝ }
+{
+    match v {
+        Verdict::Accepted => Answer::Accepted,
+        Verdict::Reported(n, s, w, u, f) => Answer::Reported(n, s, w, u, f),
+    }
 }
 
 // Is stretch n of worker w open?

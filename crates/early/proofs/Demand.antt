@@ -1,0 +1,61 @@
+-- The early finder's statement determines everything, and demand 2 said of the finder itself.
+use mathlib.Core.Path.{_≡_, refl, sym, _∙_, ap}
+use mathlib.Core.Bool.{true}
+use mathlib.Core.List.{List, []}
+use Prim.Native.Nat.{ℕ}
+use lib.ListN.{getD}
+use Rattle.events.specs.Acts.{Recording, recordingOf, before}
+use Rattle.events.specs.Clashes.{Clash, SomeAt, FirstClash}
+use Rattle.events.specs.Verdicts.{Verdict, accepted, reported, earlyVerdict}
+use Rattle.events.specs.Reports.{EventNames, Exactly}
+use Rattle.events.proofs.Demands.{early-names, early-accepts}
+use Rattle.recording.specs.declared.Fault.{Fault}
+use Rattle.recording.specs.declared.Fault.the-variants.{Fine}
+use Rattle.recording.specs.File.{refusal, eventsIn, countsIn, Accepted}
+use Rattle.recording.specs.WellFormed.{WellFormed}
+use Rattle.recording.proofs.Guarantee.{Guarantee, guarantee}
+use Rattle.recording.proofs.WellFormed.{well-formed-fine}
+use Rattle.tables.specs.Answers.{Said, judged}
+use Rattle.tables.proofs.Laws.{judged-same}
+use Rattle.early.specs.Finds.{fullTables, fault, Finds}
+
+module _ (file S₀ Wr₀ Rd₀ : List ℕ) where
+  -- Any two outcomes that the statement allows coincide.
+  module _ (a a′ : Said) (S Wr Rd S′ Wr′ Rd′ : List ℕ) (x : Finds file S₀ Wr₀ Rd₀ a S Wr Rd) (y : Finds file S₀ Wr₀ Rd₀ a′ S′ Wr′ Rd′) where
+    pub one-answer : a ≡ a′
+    one-answer = x .answers ∙ sym (y .answers)
+
+    pub one-stretch : S ≡ S′
+    one-stretch = x .stretch ∙ sym (y .stretch)
+
+    pub one-writer : Wr ≡ Wr′
+    one-writer = x .writer ∙ sym (y .writer)
+
+    pub one-readers : Rd ≡ Rd′
+    one-readers = x .readers ∙ sym (y .readers)
+
+  -- DEMAND 2, of a well-formed file lent with tables of at least full length.
+  module _ (good : WellFormed file) (full : fullTables S₀ Wr₀ Rd₀ ≡ true) (a : Said) (S Wr Rd : List ℕ) (finds : Finds file S₀ Wr₀ Rd₀ a S Wr Rd) where
+    -- the acts of each event of the recording in the file
+    abbrev all : Recording
+    all = recordingOf (eventsIn file)
+
+    certain : Guarantee file (countsIn file)
+    certain = guarantee file (countsIn file) (record { fine = well-formed-fine file good; workers = refl; fields = refl; events = refl })
+
+    says : a ≡ judged (earlyVerdict (eventsIn file))
+    says = let fine : fault file S₀ Wr₀ Rd₀ ≡ Fine = rw full (well-formed-fine file good) in rw fine at (finds .answers)
+
+    -- The finder reports event n with this sort, worker, other worker and field exactly if n is the lowest-numbered event of the
+    -- recording that clashes, and these are its names.
+    pub finds-first : (n s w u f : ℕ)
+        → Exactly (a ≡ judged (reported n s w u f)) (FirstClash all n × EventNames (before [] all n) (getD all n []) s w u f)
+    finds-first n s w u f =
+        let x = early-names (countsIn file .workers) (countsIn file .fields) (certain .few-workers) (eventsIn file) (certain .within) n s w u f in
+        (λ q. x .0 (judged-same (sym says ∙ q)), λ c. says ∙ ap judged (x .1 c))
+
+    -- It accepts exactly if no event clashes.
+    pub finds-none : Exactly (a ≡ judged accepted) ((n : ℕ) → SomeAt Clash all n → ⊥)
+    finds-none =
+        let x = early-accepts (countsIn file .workers) (countsIn file .fields) (certain .few-workers) (eventsIn file) (certain .within) in
+        (λ q. x .0 (judged-same (sym says ∙ q)), λ z. says ∙ ap judged (x .1 z))
