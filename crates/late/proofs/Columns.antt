@@ -1,6 +1,6 @@
 -- Laws of one worker's column of the log, cleared from field 0 on.
 use mathlib.Core.Path.{_≡_, refl, sym, _∙_}
-use mathlib.Core.Bool.{Bool, true, false, cond, _&&_, and-false}
+use mathlib.Core.Bool.{cond, _&&_, and-false}
 use mathlib.Core.List.{List}
 use Prim.Native.Nat.{ℕ, zero, suc, _+_, _*_, _/_, _%_, _<_, _≤_}
 use native.Mathlib.Numerals.{add-one}
@@ -10,7 +10,7 @@ use lib.ListN.{length, getD, set, drop, length-set}
 use lib.Seq.{drop-set-lt}
 use borrow.Author.Tests.{lt-ltb, le-ltb, ltb-true, ltb-false}
 use Rattle.events.proofs.Tests.{bool, same}
-use Rattle.tables.proofs.Lent.{getD-set, eqb-cell}
+use Rattle.tables.proofs.Lent.{Shown, shown-length, getD-set, eqb-cell}
 use Rattle.late.specs.Steps.{cleared}
 
 module _ (d : List ℕ) (w : ℕ) where
@@ -48,3 +48,13 @@ module _ (d : List ℕ) (w : ℕ) where
       where
         further : {n k : ℕ} → (n ≡ k → ⊥) → ltb k (suc n) ≡ ltb k n
         further {n} {k} q = bool (ltb k n) (λ s. rw s (lt-ltb k (suc n) (omega (arith, ltb-true k n s)))) (λ s. rw s (le-ltb k (suc n) (omega (arith, ltb-false k n s))))
+
+    -- a table that shows words, with the column cleared
+    pub shown-cleared : (full n : ℕ) (word word′ : ℕ → ℕ) (lent : List ℕ) → Shown full word lent d → 16 * n ≤ full
+        → ((i : ℕ) → i < full → word′ i ≡ cond (eqb w (i % 16) && ltb (i / 16) n) 0 (word i)) → Shown full word′ lent (cleared d w n)
+    shown-cleared full n word word′ lent s l q = record {
+      long = s .long;
+      same-length = length-cleared n ∙ s .same-length;
+      words = λ i k. getD-cleared n i (omega (arith, shown-length full word lent d s)) ∙ rw (s .words i k) (sym (q i k));
+      past = drop-cleared full n l ∙ s .past;
+    }

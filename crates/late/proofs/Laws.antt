@@ -1,13 +1,13 @@
 -- What each way through the code's functions answers, over plain numbers and lists.
-use mathlib.Core.Path.{_≡_, refl, sym, _∙_}
-use mathlib.Core.Bool.{Bool, true, false, cond, not, _&&_, _||_, and-false}
-use mathlib.Core.List.{List, [], _∷_}
+use mathlib.Core.Path.{_≡_, refl, _∙_}
+use mathlib.Core.Bool.{Bool, true, false, not, and-false}
+use mathlib.Core.List.{List}
 use Prim.Native.Nat.{ℕ, zero, suc, _+_, _*_, _-_, _<_, _≤_}
 use native.Mathlib.Nat.{sub-zero}
 use native.Mathlib.Omega.{arith}
-use lib.Dec.{eqb, ltb, leb}
-use lib.ListN.{length, getD, set}
-use borrow.Author.Tests.{lt-ltb, le-ltb, le-leb, lt-leb, eq-eqb, ne-eqb}
+use lib.Dec.{eqb}
+use lib.ListN.{getD, set}
+use borrow.Author.Tests.{lt-ltb, le-ltb, le-leb, lt-leb, ne-eqb}
 use Rattle.sorts.specs.declared.Worker.{Worker}
 use Rattle.sorts.specs.declared.Field.{Field}
 use Rattle.sorts.specs.Words.{joined, workerIn}
@@ -15,9 +15,8 @@ use Rattle.events.specs.declared.Event.{Event}
 use Rattle.events.specs.declared.Event.the-variants.{Read, Write, Crossing}
 use Rattle.events.specs.Acts.{Act, actsOf, writes}
 use Rattle.events.specs.Words.{once, staleByWords}
-use Rattle.events.specs.Search.{Found, lowest, at, none}
+use Rattle.events.specs.Search.{lowest}
 use Rattle.events.specs.Verdicts.{accepted, reported, firstOf, endBy}
-use Rattle.events.specs.Verdicts as papers
 use Rattle.events.proofs.Search.{found}
 use Rattle.tables.specs.declared.Other.{Other}
 use Rattle.tables.specs.declared.Other.the-variants.{Worker as Other-worker, Nobody}
@@ -28,7 +27,7 @@ use Rattle.tables.specs.Steps.{writerBy, stretchWith, stretchAfter, writerWith,
 use Rattle.late.specs.declared.Stale.{Stale}
 use Rattle.late.specs.declared.Stale.the-variants.{At, Nowhere}
 use Rattle.late.specs.Stale.{staleWords, staleFieldBy, staleOr, firstStale, saidOf}
-use Rattle.late.specs.Steps.{lateMeets, wroteBy, versionWith, versionAfter, cleared, logRead, logWith, logAfter, Sized, Room, Access, Entered, Stepped}
+use Rattle.late.specs.Steps.{lateMeets, wroteBy, versionWith, versionAfter, cleared, logRead, logWith, logAfter, Room, Access, Entered, Stepped}
 
 -- was w's open stretch, joined as word, the last writer of f?
 pub wrote-is : (S Wr : List ℕ) (w f word : ℕ) → word ≡ joined (getD S w 0) w → eqb (getD Wr f 0) word ≡ wroteBy S Wr w f
