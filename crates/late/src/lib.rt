@@ -72,8 +72,9 @@ fn stale_at(writer: &[u32], version: &[u32], log: &[u32], w: Worker, f: Field) -
 {
     let i = f.0 as usize;
     let j = place(w, f);
+    let now = Version(version[i]);
     let last = Epoch::part(writer[i]);
-    stale_by_words(log[j], Version(version[i]), last.worker, w)
+    stale_by_words(log[j], now, last.worker, w)
 }
 
 // The lowest field of which w's open stretch has a stale read.
@@ -163,12 +164,14 @@ fn enter_read(
     requires { ⌜ Access (w .0) (f .0) (now stretch) (now writer) (now version) × (8192 ≤ length (now log)) ⌝ }
     ensures { λ _. ⌜ now (log .exit) ≡ logRead (now (stretch .entry)) (now (writer .entry)) (now (version .entry)) (now (log .entry)) (w .0) (f .0) ⌝ }
 {
-    if wrote_by(stretch, writer, w, f) {
+    let own = wrote_by(stretch, writer, w, f);
+    if own {
         return;
     }
     let i = f.0 as usize;
     let j = place(w, f);
-    log[j] = logged(log[j], Version(version[i]));
+    let seen = Version(version[i]);
+    log[j] = logged(log[j], seen);
 }
 
 // The version at worker w's write of field f, which is yet to be entered: a stretch counts once.
@@ -176,7 +179,8 @@ fn count_write(stretch: &[u32], writer: &[u32], version: &mut [u32], w: Worker, 
     requires { ⌜ Access (w .0) (f .0) (now stretch) (now writer) (now version) ⌝ }
     ensures { λ _. ⌜ now (version .exit) ≡ versionWith (now (stretch .entry)) (now (writer .entry)) (now (version .entry)) (writes (w .0) (f .0)) ⌝ }
 {
-    if wrote_by(stretch, writer, w, f) {
+    let counted = wrote_by(stretch, writer, w, f);
+    if counted {
         return;
     }
     let i = f.0 as usize;

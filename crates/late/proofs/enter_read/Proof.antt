@@ -16,23 +16,23 @@ cast-i c = search needs
 place-requires : tie.Need-place-requires
 place-requires c κs = search needs
 
+mul-log : tie.Need-mul-log
+mul-log c = search needs
+
+shared-slice-read-log : tie.Need-shared-slice-read-log
+shared-slice-read-log c = search needs
+
 mul-logged : tie.Need-mul-logged
 mul-logged c = search needs
 
 slice-read-logged : tie.Need-slice-read-logged
 slice-read-logged c = search needs
 
-mul-t14 : tie.Need-mul-t14
-mul-t14 c = search needs
-
-shared-slice-read-t16 : tie.Need-shared-slice-read-t16
-shared-slice-read-t16 c = search needs
-
 logged-requires : tie.Need-logged-requires
 logged-requires c κs = search needs
 
-mul-log : tie.Need-mul-log
-mul-log c = search needs
+mul-log-2 : tie.Need-mul-log-2
+mul-log-2 c = search needs
 
 slice-write-log : tie.Need-slice-write-log
 slice-write-log c = search needs
@@ -51,12 +51,12 @@ enter-read-spec =
     returns
     cast-i
     place-requires
+    mul-log
+    shared-slice-read-log
     mul-logged
     slice-read-logged
-    mul-t14
-    shared-slice-read-t16
     logged-requires
-    mul-log
+    mul-log-2
     slice-write-log
     same-length
     returns-2)

@@ -16,6 +16,12 @@ mul-part c = search needs
 shared-slice-read-part : tie.Need-shared-slice-read-part
 shared-slice-read-part c = search needs
 
+mul-part-2 : tie.Need-mul-part-2
+mul-part-2 c = search needs
+
+shared-slice-read-part-2 : tie.Need-shared-slice-read-part-2
+shared-slice-read-part-2 c = search needs
+
 part-requires : tie.Need-part-requires
 part-requires c κs = search needs
 
@@ -24,12 +30,6 @@ mul-stale-by-words c = search needs
 
 shared-slice-read-stale-by-words : tie.Need-shared-slice-read-stale-by-words
 shared-slice-read-stale-by-words c = search needs
-
-mul-t13 : tie.Need-mul-t13
-mul-t13 c = search needs
-
-shared-slice-read-t15 : tie.Need-shared-slice-read-t15
-shared-slice-read-t15 c = search needs
 
 stale-by-words-requires : tie.Need-stale-by-words-requires
 stale-by-words-requires c κs = search needs
@@ -45,10 +45,10 @@ stale-at-spec =
     place-requires
     mul-part
     shared-slice-read-part
+    mul-part-2
+    shared-slice-read-part-2
     part-requires
     mul-stale-by-words
     shared-slice-read-stale-by-words
-    mul-t13
-    shared-slice-read-t15
     stale-by-words-requires
     returns)
