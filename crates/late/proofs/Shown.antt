@@ -1,6 +1,6 @@
 -- Tables that show a history: what an event meets by the words is the late look at it, the search after the last event is the papers', and
 -- with an event entered the tables show the longer history.
-use mathlib.Core.Path.{_≡_, refl, sym}
+use mathlib.Core.Path.{_≡_, refl, sym, _∙_}
 use mathlib.Core.Bool.{not, _&&_}
 use mathlib.Core.List.{List, [], _∷_}
 use Prim.Native.Nat.{ℕ, zero, suc, _+_, _*_, _/_, _%_, _<_, _≤_}
@@ -16,7 +16,7 @@ use Rattle.events.specs.Stretches.{hasWritten, staleRead, wroteLast}
 use Rattle.events.specs.Clashes.{OnWritten}
 use Rattle.events.specs.Words.{stretchWord, writerWord, versionWord, once, logWord}
 use Rattle.events.specs.Search.{Found}
-use Rattle.events.specs.Verdicts.{firstOf, otherWriter, staleField, lateBy, lateLook, endBy}
+use Rattle.events.specs.Verdicts.{Verdict, accepted, reported, firstOf, otherWriter, staleField, lateBy, lateLook, endBy}
 use Rattle.events.proofs.Tests.{bool, same}
 use Rattle.events.proofs.Search.{lowest-ext}
 use Rattle.events.proofs.Histories.{ActWithin, ActsWithin, event-short, before-next, No}
@@ -28,7 +28,7 @@ use Rattle.tables.specs.Steps.{writerBy, stretchWith, stretchAfter, writerWith,
 use Rattle.tables.proofs.Lent.{Shown, shown-length, shown-same, shown-set, shown-cell, eqb-cell}
 use Rattle.tables.proofs.Shown.{shown-stretch, stretch-with, writer-with, writer-shown, stretch-at-start, zero-at-start}
 use Rattle.late.specs.Stale.{staleWords, staleFieldBy}
-use Rattle.late.specs.Steps.{lateMeets, wroteBy, versionWith, versionAfter, logRead, logWith, logAfter, Sized, Room}
+use Rattle.late.specs.Steps.{lateMeets, wroteBy, versionWith, versionAfter, logRead, logWith, logAfter, Sized, Room, Stepped}
 use Rattle.late.proofs.Columns.{shown-cleared}
 
 -- The full length of each table shows the history h; past it each is as it was lent, S₀, Wr₀, Vr₀, Lg₀.
@@ -246,3 +246,20 @@ room-shown W F few fit es n l e i S₀ Wr₀ Vr₀ Lg₀ S Wr Vr Lg shows = reco
   where
     h : History
     h = before [] (recordingOf es) n
+
+-- A step on tables that show h says what the late look says. If that is no report, its tables show the longer history; else they show h.
+module _ (W F : ℕ) (few : W ≤ 16) (fit : F ≤ 512) (h : History) (inside : ActsWithin W F h) (n : ℕ) (e : List Act) (acts : ActsWithin W F e) (v : Verdict)
+    (S₀ Wr₀ Vr₀ Lg₀ S Wr Vr Lg S′ Wr′ Vr′ Lg′ : List ℕ) (shows : Shows W h S₀ Wr₀ Vr₀ Lg₀ S Wr Vr Lg)
+    (stepped : Stepped W F n e v S Wr Vr Lg S′ Wr′ Vr′ Lg′) where
+  pub step-says : No OnWritten h → v ≡ firstOf (lateLook F h n) e
+  step-says calm = stepped .answer ∙ meets-shown W F few fit S₀ Wr₀ Vr₀ Lg₀ h inside calm S Wr Vr Lg shows n e acts
+
+  pub step-passed : v ≡ accepted → No OnWritten (entered h e) → Shows W (entered h e) S₀ Wr₀ Vr₀ Lg₀ S′ Wr′ Vr′ Lg′
+  step-passed q calm =
+      rw (rw q at (stepped .stretch), rw q at (stepped .writer), rw q at (stepped .version), rw q at (stepped .log))
+      (shows-after W F few fit S₀ Wr₀ Vr₀ Lg₀ h e inside acts calm S Wr Vr Lg shows)
+
+  pub step-stopped : (m s w u f : ℕ) → v ≡ reported m s w u f → Shows W h S₀ Wr₀ Vr₀ Lg₀ S′ Wr′ Vr′ Lg′
+  unfolding stretchAfter writerAfter versionAfter logAfter
+  step-stopped m s w u f q =
+      rw (rw q at (stepped .stretch), rw q at (stepped .writer), rw q at (stepped .version), rw q at (stepped .log)) shows

@@ -1,6 +1,5 @@
 // The late finder: it counts the stretches that write a field, logs the version that a stretch has read, and looks at the log when a
 // stretch closes.
-// Everything here goes by the words alone, whatever they are.
 ghost use mathlib.Core.Path.{_≡_};
 ghost use Prim.Native.Nat.{_+_, _*_, _<_, _≤_};
 ghost use lib.ListN.{length, getD, set};
@@ -21,7 +20,7 @@ use tables::Other;
 use tables::Verdict;
 
 // What a search for a stale read finds.
-pub enum Stale {
+enum Stale {
     // The worker whose open stretch has read the field, and the field.
     At(Worker, Field),
     Nowhere,
@@ -236,7 +235,7 @@ fn enter(
 }
 
 // Event n is looked at, and entered if it is not reported.
-pub fn step(
+fn step(
     stretch: &mut [u32],
     writer: &mut [u32],
     version: &mut [u32],
@@ -257,14 +256,7 @@ pub fn step(
 }
 
 // After the last of n events: every worker is looked at as at a crossing.
-pub fn end(
-    writer: &[u32],
-    version: &[u32],
-    log: &[u32],
-    workers: u32,
-    fields: u32,
-    n: u32,
-) -> Verdict
+fn end(writer: &[u32], version: &[u32], log: &[u32], workers: u32, fields: u32, n: u32) -> Verdict
     requires { ⌜ (workers ≤ 16) × (fields ≤ 512) × (512 ≤ length (now writer)) × (512 ≤ length (now version)) × (8192 ≤ length (now log)) ⌝ }
     ensures { λ r. ⌜ verdictOf r ≡ endBy (staleFieldBy fields (now (log .entry)) (now (version .entry)) (now (writer .entry))) n 0 workers ⌝ }
 {
