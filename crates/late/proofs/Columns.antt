@@ -10,7 +10,8 @@ use lib.ListN.{length, getD, set, drop, length-set}
 use lib.Seq.{drop-set-lt}
 use borrow.Author.Tests.{lt-ltb, le-ltb, ltb-true, ltb-false}
 use Rattle.events.proofs.Tests.{bool, same}
-use Rattle.tables.proofs.Lent.{Shown, shown-length, getD-set, eqb-cell}
+use Rattle.tables.specs.Lent.{Shown}
+use Rattle.tables.proofs.Lent.{shown-length, getD-set, eqb-cell}
 use Rattle.late.specs.Steps.{cleared}
 
 module _ (d : List ℕ) (w : ℕ) where

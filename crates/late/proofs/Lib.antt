@@ -2,3 +2,5 @@
 pub mod Laws
 pub mod Columns
 pub mod Shown
+pub mod Runs
+pub mod Answers

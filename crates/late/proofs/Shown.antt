@@ -23,20 +23,14 @@ use Rattle.events.proofs.Histories.{ActWithin, ActsWithin, event-short, before-
 use Rattle.events.proofs.Stretches.{stretch-low}
 use Rattle.events.proofs.Words.{has-written}
 use Rattle.events.proofs.Stale.{wrote-last, stale-by-words}
-use Rattle.tables.specs.Lent.{cells, filled}
+use Rattle.tables.specs.Lent.{cells, filled, Shown}
 use Rattle.tables.specs.Steps.{writerBy, stretchWith, stretchAfter, writerWith, writerAfter}
-use Rattle.tables.proofs.Lent.{Shown, shown-length, shown-same, shown-set, shown-cell, eqb-cell}
+use Rattle.tables.proofs.Lent.{shown-length, shown-same, shown-set, shown-cell, eqb-cell}
 use Rattle.tables.proofs.Shown.{shown-stretch, stretch-with, writer-with, writer-shown, stretch-at-start, zero-at-start}
 use Rattle.late.specs.Stale.{staleWords, staleFieldBy}
 use Rattle.late.specs.Steps.{lateMeets, wroteBy, versionWith, versionAfter, logRead, logWith, logAfter, Sized, Room, Stepped}
+use Rattle.late.specs.Runs.{Shows}
 use Rattle.late.proofs.Columns.{shown-cleared}
-
--- The full length of each table shows the history h; past it each is as it was lent, S₀, Wr₀, Vr₀, Lg₀.
-pub record Shows (W : ℕ) (h : History) (S₀ Wr₀ Vr₀ Lg₀ S Wr Vr Lg : List ℕ) : Type 0 where
-  pub stretch : Shown 16 (stretchWord W h) S₀ S
-  pub writer : Shown 512 (writerWord h) Wr₀ Wr
-  pub version : Shown 512 (versionWord h) Vr₀ Vr
-  pub log : Shown 8192 (cells (logWord h)) Lg₀ Lg
 
 -- with fewer fields, acts are also within more
 act-wider : (W F G : ℕ) → F ≤ G → (a : Act) → ActWithin W F a → ActWithin W G a

@@ -2,20 +2,27 @@
 // stretch closes.
 ghost use mathlib.Core.Path.{_≡_};
 ghost use Prim.Native.Nat.{_+_, _*_, _<_, _≤_};
+ghost use mathlib.Core.List.{[]};
 ghost use lib.ListN.{length, getD, set};
 ghost use Rattle.sorts.specs.Words.{joined};
 ghost use Rattle.events.specs.Acts.{actsOf, writes};
 ghost use Rattle.events.specs.Words.{once, staleByWords};
 ghost use Rattle.events.specs.Verdicts.{endBy};
-ghost use Rattle.tables.specs.Answers.{verdictOf};
+ghost use Rattle.recording.specs.File.{Accepted};
+ghost use Rattle.tables.specs.Answers.{verdictOf, saidBy};
 ghost use Rattle.late.specs.Stale.{staleWords, staleFieldBy, firstStale, saidOf};
-ghost use Rattle.late.specs.Steps.{lateMeets, wroteBy, versionWith, logRead, cleared, Room, Access, Entered, Stepped};
+ghost use Rattle.late.specs.Steps.{lateMeets, wroteBy, versionWith, logRead, cleared, Sized, Room, Access, Entered, Stepped};
+ghost use Rattle.late.specs.Runs.{Shows, Ready, Ran};
+ghost use Rattle.late.specs.Finds.{Finds};
 use events::Event;
+use recording::Checked;
+use recording::Counts;
 use sorts::Epoch;
 use sorts::Field;
 use sorts::Stretch;
 use sorts::Version;
 use sorts::Worker;
+use tables::Answer;
 use tables::Other;
 use tables::Verdict;
 
@@ -261,4 +268,92 @@ fn end(writer: &[u32], version: &[u32], log: &[u32], workers: u32, fields: u32, 
     ensures { λ r. ⌜ verdictOf r ≡ endBy (staleFieldBy fields (now (log .entry)) (now (version .entry)) (now (writer .entry))) n 0 workers ⌝ }
 {
     said_of(n, first_stale(writer, version, log, workers, fields))
+}
+
+// The events in their order, on tables that show that nothing has happened yet, and then the end.
+fn run(
+    file: &[u8],
+    counts: Counts,
+    stretch: &mut [u32],
+    writer: &mut [u32],
+    version: &mut [u32],
+    log: &mut [u32],
+) -> Verdict
+    requires { ⌜ Ready (now file) counts (now stretch) (now writer) (now version) (now log) ⌝ }
+    ensures { λ r. ⌜ Ran (now (file .entry)) counts (verdictOf r) (now (stretch .entry)) (now (writer .entry)) (now (version .entry)) (now (log .entry)) (now (stretch .exit)) (now (writer .exit)) (now (version .exit)) (now (log .exit)) ⌝ }
+{
+    let workers = counts.workers;
+    let fields = counts.fields;
+    for n in 0..counts.events {
+        let e = recording::event_at(file, counts, n);
+        let r = step(stretch, writer, version, log, workers, fields, n, e);
+        if let Verdict::Reported(_, _, _, _, _) = r {
+            return r;
+        }
+    }
+    end(writer, version, log, workers, fields, counts.events)
+}
+
+// The tables before event 0: every worker is in stretch 1, and nothing has happened.
+fn clear(
+    stretch: &mut [u32],
+    writer: &mut [u32],
+    version: &mut [u32],
+    log: &mut [u32],
+    workers: u32,
+)
+    requires { ⌜ (workers ≤ 16) × Sized (now stretch) (now writer) (now version) (now log) ⌝ }
+    ensures { λ _. ⌜ Shows workers [] (now (stretch .entry)) (now (writer .entry)) (now (version .entry)) (now (log .entry)) (now (stretch .exit)) (now (writer .exit)) (now (version .exit)) (now (log .exit)) ⌝ }
+{
+    tables::fill(stretch, 16, 0);
+    tables::fill(stretch, workers as usize, 1);
+    tables::fill(writer, 512, 0);
+    tables::fill(version, 512, 0);
+    tables::fill(log, 8192, 0);
+}
+
+// The search over an accepted file, on any tables of full length.
+fn search(
+    file: &[u8],
+    counts: Counts,
+    stretch: &mut [u32],
+    writer: &mut [u32],
+    version: &mut [u32],
+    log: &mut [u32],
+) -> Verdict
+    requires { ⌜ Accepted (now file) counts × Sized (now stretch) (now writer) (now version) (now log) ⌝ }
+    ensures { λ r. ⌜ Ran (now (file .entry)) counts (verdictOf r) (now (stretch .entry)) (now (writer .entry)) (now (version .entry)) (now (log .entry)) (now (stretch .exit)) (now (writer .exit)) (now (version .exit)) (now (log .exit)) ⌝ }
+{
+    clear(stretch, writer, version, log, counts.workers);
+    run(file, counts, stretch, writer, version, log)
+}
+
+// The answer to any file and any tables. Test 11 comes first, then the file's own tests; nothing is written before all have passed.
+pub fn find(
+    file: &[u8],
+    stretch: &mut [u32],
+    writer: &mut [u32],
+    version: &mut [u32],
+    log: &mut [u32],
+) -> Answer
+    ensures { λ r. ⌜ Finds (now (file .entry)) (now (stretch .entry)) (now (writer .entry)) (now (version .entry)) (now (log .entry)) (saidBy r) (now (stretch .exit)) (now (writer .exit)) (now (version .exit)) (now (log .exit)) ⌝ }
+{
+    if stretch.len() < 16 {
+        return Answer::Refused(11, 0);
+    }
+    if writer.len() < 512 {
+        return Answer::Refused(11, 0);
+    }
+    if version.len() < 512 {
+        return Answer::Refused(11, 0);
+    }
+    if log.len() < 8192 {
+        return Answer::Refused(11, 0);
+    }
+    match recording::check(file) {
+        Checked::Refused(number, place) => Answer::Refused(number, place),
+        Checked::Fine(counts) => {
+            tables::answer_to(search(file, counts, stretch, writer, version, log))
+        }
+    }
 }
