@@ -1,6 +1,6 @@
 -- What each way through the functions answers.
 use mathlib.Core.Path.{_≡_, refl, sym, _∙_, ap}
-use mathlib.Core.Bool.{Bool, true, false, cond, _&&_, _||_, and-false}
+use mathlib.Core.Bool.{Bool, true, false, not, cond, _&&_, _||_, and-false}
 use mathlib.Core.List.{List}
 use Prim.Native.Nat.{ℕ, zero, suc, _+_, _*_, _-_, _<_, _≤_}
 use native.Mathlib.Omega.{arith}
@@ -58,45 +58,55 @@ pub entry-is : (s : List ℕ) (i kind worker field : ℕ) → kind ≡ getD s i 
 unfolding entryAt
 entry-is s i kind worker field p q r = rw (p, q, r)
 
-kind-known : (kind : ℕ) → (kind ≡ 0 → ⊥) → kind ≤ 3 → kindAllowed kind ≡ true
-unfolding kindAllowed
-kind-known zero z l = absurd (z refl)
-kind-known (suc zero) z l = refl
-kind-known (suc (suc zero)) z l = refl
-kind-known (suc (suc (suc zero))) z l = refl
-kind-known (suc (suc (suc (suc kind)))) z l = absurd (omega arith)
+module _ (kind : ℕ) where
+  pub kind-read : kind ≡ 1 → true ≡ kindAllowed kind
+  unfolding kindAllowed
+  kind-read q = rw q
+
+  pub kind-write : kind ≡ 2 → true ≡ kindAllowed kind
+  unfolding kindAllowed
+  kind-write q = rw q
+
+  pub kind-other : (kind ≡ 1 → ⊥) → (kind ≡ 2 → ⊥) → eqb kind 3 ≡ kindAllowed kind
+  unfolding kindAllowed
+  kind-other a b = rw (ne-eqb kind 1 a, ne-eqb kind 2 b)
+
+  module _ (F field : ℕ) where
+    pub field-crossing : kind ≡ 3 → eqb field 0 ≡ fieldAllowed F kind field
+    unfolding fieldAllowed
+    field-crossing q = rw q
+
+    pub field-access : (kind ≡ 3 → ⊥) → ltb field F ≡ fieldAllowed F kind field
+    unfolding fieldAllowed
+    field-access q = rw (ne-eqb kind 3 q)
+
+not-true : (b : Bool) → not b ≡ true → b ≡ false
+not-true true e = let z : _≡_ {A = ℕ} 0 1 = cc in absurd (omega arith)
+not-true false e = refl
+
+not-false : (b : Bool) → not b ≡ false → b ≡ true
+not-false true e = refl
+not-false false e = let z : _≡_ {A = ℕ} 0 1 = cc in absurd (omega arith)
 
 -- an event that starts at start, test by test
-module _ (W F start : ℕ) (e : Entry) where
-  pub kind-zero : e .kind ≡ 0 → Refused 7 start ≡ eventTests W F e start
-  unfolding eventTests kindAllowed eventPlace _then_ need
-  kind-zero z = rw z
+module _ (W F start : ℕ) (e : Entry) (k : Bool) (q : k ≡ kindAllowed (e .kind)) where
+  pub kind-refused : not k ≡ true → Refused 7 start ≡ eventTests W F e start
+  unfolding eventTests eventPlace _then_ need
+  kind-refused a = rw (← q, not-true k a)
 
-  pub kind-over : 3 < e .kind → Refused 7 start ≡ eventTests W F e start
-  unfolding eventTests kindAllowed eventPlace _then_ need
-  kind-over l = rw (ne-eqb (e .kind) 1 (λ q. omega arith), ne-eqb (e .kind) 2 (λ q. omega arith), ne-eqb (e .kind) 3 (λ q. omega arith))
-
-  module _ (z : e .kind ≡ 0 → ⊥) (l : e .kind ≤ 3) where
-    pub worker-over : W ≤ e .worker → Refused 8 start ≡ eventTests W F e start
+  module _ (a : not k ≡ false) where
+    pub worker-refused : W ≤ e .worker → Refused 8 start ≡ eventTests W F e start
     unfolding eventTests eventPlace _then_ need
-    worker-over a = rw (kind-known (e .kind) z l, le-ltb (e .worker) W a)
+    worker-refused l = rw (← q, not-false k a, le-ltb (e .worker) W l)
 
-    module _ (a : e .worker < W) where
-      pub crossing-fine : e .kind ≡ 3 → e .field ≡ 0 → Fine ≡ eventTests W F e start
-      unfolding eventTests fieldAllowed _then_ need
-      crossing-fine k f = rw (kind-known (e .kind) z l, lt-ltb (e .worker) W a, k, f)
+    module _ (l : e .worker < W) (f : Bool) (p : f ≡ fieldAllowed F (e .kind) (e .field)) where
+      pub field-refused : not f ≡ true → Refused 9 start ≡ eventTests W F e start
+      unfolding eventTests eventPlace _then_ need
+      field-refused b = rw (← q, not-false k a, lt-ltb (e .worker) W l, ← p, not-true f b)
 
-      pub crossing-field : e .kind ≡ 3 → (e .field ≡ 0 → ⊥) → Refused 9 start ≡ eventTests W F e start
-      unfolding eventTests eventPlace fieldAllowed _then_ need
-      crossing-field k f = rw (kind-known (e .kind) z l, lt-ltb (e .worker) W a, k, ne-eqb (e .field) 0 f)
-
-      pub access-fine : (e .kind ≡ 3 → ⊥) → e .field < F → Fine ≡ eventTests W F e start
-      unfolding eventTests fieldAllowed _then_ need
-      access-fine k f = rw (kind-known (e .kind) z l, lt-ltb (e .worker) W a, ne-eqb (e .kind) 3 k, lt-ltb (e .field) F f)
-
-      pub access-field : (e .kind ≡ 3 → ⊥) → F ≤ e .field → Refused 9 start ≡ eventTests W F e start
-      unfolding eventTests eventPlace fieldAllowed _then_ need
-      access-field k f = rw (kind-known (e .kind) z l, lt-ltb (e .worker) W a, ne-eqb (e .kind) 3 k, le-ltb (e .field) F f)
+      pub event-fine : not f ≡ false → Fine ≡ eventTests W F e start
+      unfolding eventTests _then_ need
+      event-fine b = rw (← q, not-false k a, lt-ltb (e .worker) W l, ← p, not-false f b)
 
 -- events looked at before event n, count - n of them to come, which answer x
 module _ (s : List ℕ) (at W F count n : ℕ) (x : Fault) (inv : eventsTests W F (entriesAt s at) at n (count - n) ≡ x) where

@@ -32,8 +32,8 @@ module _ (W F : ℕ) (e : Entry) where
   pub event-good : (start : ℕ) → eventTests W F e start ≡ Fine → Good W F e
   unfolding eventTests kindAllowed fieldAllowed
   event-good start t =
-      let a = then-fine (need (kindAllowed (e .kind)) 7 _) _ t in
-      let b = then-fine (need (ltb (e .worker) W) 8 _) _ (a .1) in
+      let a = then-fine _ _ t in
+      let b = then-fine _ _ (a .1) in
       good-by (eqb (e .kind) 1) (eqb (e .kind) 2) refl refl (need-fine _ _ _ (a .0)) (ltb-true (e .worker) W (need-fine _ _ _ (b .0))) (need-fine _ _ _ (b .1))
 
   pub good-event : (start : ℕ) → Good W F e → eventTests W F e start ≡ Fine
@@ -48,7 +48,7 @@ module _ (W F : ℕ) (entry : ℕ → Entry) (at : ℕ) where
   unfolding eventsTests
   events-good n zero t j l m = absurd (omega arith)
   events-good n (suc k) t j l m =
-      let a = then-fine (eventTests W F (entry n) (at + 4 * n)) (eventsTests W F entry at (n + 1) k) t in
+      let a = then-fine _ _ t in
       first-or-later n j l
       (λ q. rw q at (event-good W F (entry n) (at + 4 * n) (a .0)))
       (λ p. events-good (n + 1) k (a .1) j p (omega arith))
