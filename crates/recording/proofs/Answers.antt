@@ -19,8 +19,10 @@ use Rattle.recording.specs.declared.Checked.{Checked}
 use Rattle.recording.specs.declared.Checked.the-variants.{Refused as Checked-refused, Fine as Checked-fine}
 use Rattle.recording.specs.declared.Counted.{Counted}
 use Rattle.recording.specs.declared.Counted.the-variants.{Refused as Counted-refused, Count}
+use Rattle.recording.specs.declared.Step.{Step}
+use Rattle.recording.specs.declared.Step.the-variants.{Next, End}
 use Rattle.recording.specs.Tests.{need, _then_, rising, kindAllowed, fieldAllowed, eventPlace, eventTests, eventsTests, section, labelSection, eventSection, endTest, eventsToEnd, eventsAt, fileSize, fileTests, allTests}
-use Rattle.recording.specs.File.{numberAt, labelAt, entryAt, entriesAt, workerCount, fieldCount, eventCount, workerLabel, fieldLabel, entryIn, contentsIn, refusal, labelsAnswer, eventsAnswer, toEndAnswer, checked, eventOf, eventAt, Accepted}
+use Rattle.recording.specs.File.{numberAt, labelAt, entryAt, entriesAt, workerCount, fieldCount, eventCount, workerLabel, fieldLabel, entryIn, contentsIn, refusal, labelsAnswer, eventsAnswer, toEndAnswer, checked, eventOf, eventAt, Accepted, stepAt}
 
 pub number-is : (s : List ℕ) (i low high r : ℕ) → low ≡ getD s i 0 → high ≡ getD s (i + 1) 0 → r ≡ low + 256 * high → r ≡ numberAt s i
 unfolding numberAt
@@ -309,3 +311,17 @@ module _ (s : List ℕ) (n r : ℕ) where
   pub field-label-is : (W : ℕ) → W ≡ numberAt s 0 → r ≡ numberAt s (2 + 2 * W + 2 + 2 * n) → r ≡ fieldLabel s n
   unfolding fieldLabel labelAt workerCount
   field-label-is W p q = rw (← p) q
+
+-- what a reader hands out at a place
+module _ (s : List ℕ) (at : ℕ) where
+  pub step-past : length s < at → End ≡ stepAt s at
+  unfolding stepAt
+  step-past l = rw (lt-leb (at + 4) (length s) (omega arith))
+
+  pub step-short : at ≤ length s → length s - at < 4 → End ≡ stepAt s at
+  unfolding stepAt
+  step-short l m = rw (lt-leb (at + 4) (length s) (omega arith))
+
+  pub step-next : (e : Entry) (r : Event) → at ≤ length s → 4 ≤ length s - at → e ≡ entryAt s at → r ≡ eventOf e → Next r (at + 4) ≡ stepAt s at
+  unfolding stepAt
+  step-next e r l m p q = rw (le-leb (at + 4) (length s) (omega arith), ← p, ← q)

@@ -3,7 +3,7 @@ use mathlib.Core.Path.{_≡_}
 use mathlib.Core.Bool.{Bool, true, cond}
 use mathlib.Core.List.{List, [], _∷_}
 use Prim.Native.Nat.{ℕ, zero, suc, _+_, _*_}
-use lib.Dec.{eqb}
+use lib.Dec.{eqb, leb}
 use lib.ListN.{length, getD}
 use Rattle.events.specs.declared.Event.{Event}
 use Rattle.events.specs.declared.Event.the-variants.{Read, Write, Crossing}
@@ -15,6 +15,8 @@ use Rattle.recording.specs.declared.Counted.{Counted}
 use Rattle.recording.specs.declared.Counted.the-variants.{Refused as Counted-refused, Count}
 use Rattle.recording.specs.declared.Checked.{Checked}
 use Rattle.recording.specs.declared.Checked.the-variants.{Refused as Checked-refused, Fine as Checked-fine}
+use Rattle.recording.specs.declared.Step.{Step}
+use Rattle.recording.specs.declared.Step.the-variants.{Next, End}
 use Rattle.recording.specs.Tests.{Contents, eventBytes, fieldsAt, eventsAt, labelSection, eventSection, eventsToEnd, allTests}
 
 -- All two-byte numbers have the low byte first.
@@ -127,3 +129,7 @@ toEndAnswer s W F =
 
 unfoldable pub checked : List ℕ → Checked
 checked s = answered (refusal true s) (countsIn s)
+
+-- A reader hands out one event at a time: the event at a place with the place of the next, or the end where no event's bytes are left.
+unfoldable pub stepAt : List ℕ → ℕ → Step
+stepAt s at = cond (leb (at + eventBytes) (length s)) (Next (eventOf (entryAt s at)) (at + eventBytes)) End

@@ -6,7 +6,7 @@ ghost use mathlib.Core.Path.{_≡_};
 ghost use Prim.Native.Nat.{_+_, _*_, _<_, _≤_};
 ghost use lib.ListN.{length, getD};
 ghost use Rattle.recording.specs.Tests.{rising, kindAllowed, fieldAllowed, eventTests, eventsTests, eventsAt};
-ghost use Rattle.recording.specs.File.{twoByte, numberAt, labelAt, entryAt, entriesAt, labelsAnswer, eventsAnswer, toEndAnswer, checked, eventOf, eventAt, workerLabel, fieldLabel, Accepted};
+ghost use Rattle.recording.specs.File.{twoByte, numberAt, labelAt, entryAt, entriesAt, labelsAnswer, eventsAnswer, toEndAnswer, checked, eventOf, eventAt, workerLabel, fieldLabel, Accepted, stepAt};
 
 // What a test of the file answers.
 pub enum Fault {
@@ -293,4 +293,75 @@ pub fn field_label(file: &[u8], f: Field) -> u32
 {
     let workers = any_number_at(file, 0) as usize;
     any_number_at(file, 2 + 2 * workers + 2 + 2 * (f.0 as usize))
+}
+
+// What a reader hands out.
+pub enum Step {
+    // An event, and the place of the next.
+    Next(Event, usize),
+    // There is none left.
+    End,
+}
+
+// The work of a reader, at a place of the file.
+pub fn step_at(file: &[u8], at: usize) -> Step
+    ensures { λ r. ⌜ r ≡ stepAt (now (file .entry)) at ⌝ }
+{
+    if file.len() < at {
+        return Step::End;
+    }
+    if file.len() - at < Entry::BYTES {
+        return Step::End;
+    }
+    Step::Next(event_of(entry_at(file, at)), at + Entry::BYTES)
+}
+
+// A reader stands over the lent file and hands out one event at a time: the file, its counts and the place of the next event.
+pub struct Reader<'a> {
+    pub file: &'a [u8],
+    pub workers: u32,
+    pub fields: u32,
+    pub events: u32,
+    pub at: usize,
+}
+
+impl<'a> Reader<'a> {
+    pub fn new(file: &'a [u8], workers: u32, fields: u32, events: u32, at: usize) -> Reader<'a>
+        ensures { λ r. ⌜ r ≡ record { file = file .entry; workers = workers; fields = fields; events = events; at = at } ⌝ }
+    {
+        Reader {
+            file,
+            workers,
+            fields,
+            events,
+            at,
+        }
+    }
+
+    // The event at the reader's place, if there is one left.
+    pub fn next(self) -> Step
+        ensures { λ s. ⌜ s ≡ stepAt (now (self .entry .file)) (self .entry .at) ⌝ }
+    {
+        step_at(self.file, self.at)
+    }
+
+    // The reader at another place.
+    pub fn moved(self, at: usize) -> Reader<'a>
+        ensures { λ r. ⌜ r ≡ record { file = self .entry .file; workers = self .entry .workers; fields = self .entry .fields; events = self .entry .events; at = at } ⌝ }
+    {
+        Reader {
+            file: self.file,
+            workers: self.workers,
+            fields: self.fields,
+            events: self.events,
+            at,
+        }
+    }
+}
+
+// What a reader over the file hands out at a place. Its parameters are plain, so its callers need no walk.
+pub fn read(file: &[u8], workers: u32, fields: u32, events: u32, at: usize) -> Step
+    ensures { λ r. ⌜ r ≡ stepAt (now (file .entry)) at ⌝ }
+{
+    Reader::new(file, workers, fields, events, at).next()
 }
