@@ -7,10 +7,9 @@ use lib.Dec.{ltb, leb}
 use borrow.Author.Tests.{leb-true, le-leb, ltb-true, ltb-false, lt-ltb}
 use Rattle.recording.specs.declared.Fault.{Fault}
 use Rattle.recording.specs.declared.Fault.the-variants.{Fine, Refused}
-use Rattle.recording.specs.declared.Counted.{Counted}
 use Rattle.recording.specs.declared.Counted.the-variants.{Refused as Counted-refused, Count}
 use Rattle.recording.specs.Tests.{need, _then_, rising, section, labelSection}
-use Rattle.recording.specs.File.{counted}
+use Rattle.recording.specs.Parts.{counted}
 
 pub need-fine : (t : Bool) (number place : ℕ) → need t number place ≡ Fine → t ≡ true
 unfolding need

@@ -1,19 +1,19 @@
 -- The tests pass exactly on the well-formed files.
-use mathlib.Core.Path.{_≡_, refl, sym, _∙_}
-use mathlib.Core.Bool.{Bool, true, false, cond, _&&_, _||_}
+use mathlib.Core.Path.{_≡_, refl}
+use mathlib.Core.Bool.{Bool, true, false, cond, _||_}
 use mathlib.Core.List.{List}
-use Prim.Native.Nat.{ℕ, zero, suc, _+_, _*_, _-_, _<_, _≤_}
+use Prim.Native.Nat.{ℕ, zero, suc, _+_, _*_, _<_, _≤_}
 use native.Mathlib.Omega.{arith}
-use lib.Dec.{eqb, ltb, leb}
+use lib.Dec.{eqb, ltb}
 use lib.ListN.{length}
-use borrow.Author.Tests.{lt-ltb, le-leb, leb-true, ltb-true, eqb-true, eqb-false, eq-eqb}
-use Rattle.recording.specs.declared.Fault.the-variants.{Fine, Refused}
+use borrow.Author.Tests.{lt-ltb, le-leb, leb-true, ltb-true, eqb-true}
+use Rattle.recording.specs.declared.Fault.the-variants.{Fine}
 use Rattle.recording.specs.declared.Entry.{Entry}
-use Rattle.recording.specs.Tests.{need, _then_, rising, kindAllowed, fieldAllowed, eventTests, eventsTests, section, labelSection, eventSection, endTest, eventsToEnd, fieldsAt, eventsAt, fileSize, fileTests, allTests}
+use Rattle.recording.specs.Tests.{need, _then_, kindAllowed, fieldAllowed, eventTests, eventsTests, section, labelSection, eventSection, endTest, eventsToEnd, fieldsAt, eventsAt, fileSize, fileTests, allTests}
 use Rattle.recording.specs.File.{workerCount, fieldCount, eventCount, workerLabel, fieldLabel, entryIn, contentsIn, refusal}
 use Rattle.recording.specs.WellFormed.{Good, WellFormed}
 use Rattle.recording.specs.WellFormed.Good.{read, write, crossing}
-use Rattle.recording.proofs.Tests.{need-fine, fine-need, then-fine, fine-then, first-or-later, and-both, section-passed, passed-section, Labels, labels-good, good-labels}
+use Rattle.recording.proofs.Tests.{need-fine, fine-need, then-fine, fine-then, first-or-later, section-passed, passed-section, labels-good, good-labels}
 
 -- an event
 module _ (W F : ℕ) (e : Entry) where

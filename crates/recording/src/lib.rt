@@ -6,7 +6,8 @@ ghost use mathlib.Core.Path.{_≡_};
 ghost use Prim.Native.Nat.{_+_, _*_, _<_, _≤_};
 ghost use lib.ListN.{length, getD};
 ghost use Rattle.recording.specs.Tests.{rising, kindAllowed, fieldAllowed, eventTests, eventsTests, eventsAt};
-ghost use Rattle.recording.specs.File.{twoByte, numberAt, labelAt, entryAt, entriesAt, labelsAnswer, eventsAnswer, toEndAnswer, checked, eventOf, eventAt, workerLabel, fieldLabel, Accepted, stepAt};
+ghost use Rattle.recording.specs.Parts.{labelsAnswer, eventsAnswer, toEndAnswer};
+ghost use Rattle.recording.specs.File.{twoByte, numberAt, labelAt, entryAt, entriesAt, checked, eventOf, eventAt, workerLabel, fieldLabel, Accepted, stepAt};
 
 // What a test of the file answers.
 pub enum Fault {
