@@ -2,6 +2,7 @@
 use events::Event;
 use recording::Checked;
 use recording::Counts;
+use recording::Step;
 use sorts::Field;
 use sorts::Worker;
 ghost use Prim.Native.Nat.{_≤_};
@@ -75,6 +76,33 @@ fn listed(name: &[u8], file: &[u8]) {
     io::write_all(OUT, b":");
     if let Checked::Fine(c) = recording::check(file) {
         events_of(file, c);
+    }
+    io::write_all(OUT, b"\n");
+}
+
+// The same events through the reader, and what it says after the last.
+fn read_all(file: &[u8], c: Counts) {
+    let mut at = 6 + 2 * (c.workers as usize) + 2 * (c.fields as usize);
+    for _ in 0..c.events {
+        match recording::read(file, c.workers, c.fields, c.events, at) {
+            Step::Next(e, next) => {
+                event(file, e);
+                at = next;
+            }
+            Step::End => return,
+        }
+    }
+    if let Step::End = recording::read(file, c.workers, c.fields, c.events, at) {
+        io::write_all(OUT, b" end");
+    }
+}
+
+// The events of a file that is accepted, by the reader.
+fn read_out(name: &[u8], file: &[u8]) {
+    io::write_all(OUT, name);
+    io::write_all(OUT, b":");
+    if let Checked::Fine(c) = recording::check(file) {
+        read_all(file, c);
     }
     io::write_all(OUT, b"\n");
 }
@@ -254,16 +282,11 @@ fn event_cases() {
     );
 }
 
-// The printed example.
-fn example() {
-    case(
-        b"printed example",
-        b"\x02\x00\x0a\x00\x0b\x00\x01\x00\x07\x00\x04\x00\x01\x00\x00\x00\x02\x01\x00\x00\x03\x01\x00\x00\x03\x00\x00\x00",
-    );
-    listed(
-        b"its events",
-        b"\x02\x00\x0a\x00\x0b\x00\x01\x00\x07\x00\x04\x00\x01\x00\x00\x00\x02\x01\x00\x00\x03\x01\x00\x00\x03\x00\x00\x00",
-    );
+// The printed example: its answer, and its events in two ways.
+fn example(file: &[u8]) {
+    case(b"printed example", file);
+    listed(b"its events", file);
+    read_out(b"its events by the reader", file);
 }
 
 // The limits themselves.
@@ -282,6 +305,8 @@ fn main() {
     field_cases();
     event_count_cases();
     event_cases();
-    example();
+    example(
+        b"\x02\x00\x0a\x00\x0b\x00\x01\x00\x07\x00\x04\x00\x01\x00\x00\x00\x02\x01\x00\x00\x03\x01\x00\x00\x03\x00\x00\x00",
+    );
     limit_cases();
 }
