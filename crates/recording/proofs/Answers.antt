@@ -239,8 +239,16 @@ module _ (s : List ℕ) (at limit range order : ℕ) (r : Counted) (q : r ≡ la
     section-room : at + 2 + 2 * m ≤ length s
     section-room = rw (section-is-fine .1) at (section-labels .room)
 
-    section-few : m ≤ limit
+    pub section-few : m ≤ limit
     section-few = rw (section-is-fine .1) at (section-labels .few)
+
+-- where the next section starts, whatever the limit and the numbers: after the workers, and after the fields
+module _ (s : List ℕ) (limit range order : ℕ) (r : Counted) (W : ℕ) where
+  pub workers-room : r ≡ labelsAnswer s 0 limit range order → r ≡ Count W → 2 + 2 * W ≤ length s
+  workers-room q k = section-room s 0 limit range order r q W k
+
+  pub fields-room : (F : ℕ) → r ≡ labelsAnswer s (2 + 2 * W) limit range order → r ≡ Count F → 4 + 2 * W + 2 * F ≤ length s
+  fields-room F q k = let z = section-room s (2 + 2 * W) limit range order r q F k in omega arith
 
 -- the whole file: the workers answer r, and where they are fine the fields answer r′
 module _ (s : List ℕ) (r : Counted) (q : r ≡ labelsAnswer s 0 16 2 3) where
@@ -249,12 +257,6 @@ module _ (s : List ℕ) (r : Counted) (q : r ≡ labelsAnswer s 0 16 2 3) where
   workers-refused number place k = rw (section-is-refused s 0 16 2 3 r q number place k)
 
   module _ (W : ℕ) (k : r ≡ Count W) where
-    pub workers-room : 2 + 2 * W ≤ length s
-    workers-room = section-room s 0 16 2 3 r q W k
-
-    pub workers-few : W ≤ 16
-    workers-few = section-few s 0 16 2 3 r q W k
-
     module _ (r′ : Counted) (q′ : r′ ≡ labelsAnswer s (2 + 2 * W) 512 4 5) where
       pub fields-refused : (number place : ℕ) → r′ ≡ Counted-refused number place → Checked-refused number place ≡ checked s
       unfolding checked refusal allTests fileTests contentsIn workerCount workerLabel fieldCount fieldLabel _then_ need
@@ -263,12 +265,6 @@ module _ (s : List ℕ) (r : Counted) (q : r ≡ labelsAnswer s 0 16 2 3) where
           rw (a .0, a .1, section-is-refused s (2 + 2 * W) 512 4 5 r′ q′ number place k′)
 
       module _ (F : ℕ) (k′ : r′ ≡ Count F) where
-        pub fields-few : F ≤ 512
-        fields-few = section-few s (2 + 2 * W) 512 4 5 r′ q′ F k′
-
-        pub fields-room : 4 + 2 * W + 2 * F ≤ length s
-        fields-room = let z = section-room s (2 + 2 * W) 512 4 5 r′ q′ F k′ in omega arith
-
         pub events-answer : (a : Checked) → a ≡ toEndAnswer s W F → a ≡ checked s
         unfolding checked refusal allTests fileTests contentsIn workerCount workerLabel fieldCount fieldLabel eventCount entryIn toEndAnswer _then_ need
         events-answer a t =
