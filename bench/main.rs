@@ -6,6 +6,7 @@ use std::time::Instant;
 
 mod baseline;
 mod inputs;
+mod proved;
 
 use baseline::Answer;
 use inputs::Input;
@@ -17,59 +18,70 @@ const USAGE: &str =
 /// Answers on a file with tables of its own, so that a repetition finds them as the one before left them.
 type Find = Box<dyn FnMut(&[u8]) -> Answer>;
 
-struct Finder {
+/// A proved finder and the baseline it is held against.
+struct Pair {
     name: &'static str,
-    answer: Find,
+    proved: Find,
+    baseline: Find,
 }
 
-fn finders() -> Vec<Finder> {
-    vec![
-        Finder {
-            name: "early baseline",
-            answer: early_baseline(),
+type Early = fn(&[u8], &mut [u32], &mut [u32], &mut [u32]) -> Answer;
+type Late = fn(&[u8], &mut [u32], &mut [u32], &mut [u32], &mut [u32]) -> Answer;
+
+fn pairs() -> [Pair; 2] {
+    [
+        Pair {
+            name: "early",
+            proved: with_early_tables(proved::early),
+            baseline: with_early_tables(baseline::early),
         },
-        Finder {
-            name: "late baseline",
-            answer: late_baseline(),
+        Pair {
+            name: "late",
+            proved: with_late_tables(proved::late),
+            baseline: with_late_tables(baseline::late),
         },
     ]
 }
 
-fn early_baseline() -> Find {
+fn with_early_tables(find: Early) -> Find {
     let (mut stretch, mut writer, mut readers) = (vec![0; 16], vec![0; 512], vec![0; 8192]);
-    Box::new(move |file| baseline::early(file, &mut stretch, &mut writer, &mut readers))
+    Box::new(move |file| find(file, &mut stretch, &mut writer, &mut readers))
 }
 
-fn late_baseline() -> Find {
+fn with_late_tables(find: Late) -> Find {
     let (mut stretch, mut writer) = (vec![0; 16], vec![0; 512]);
     let (mut version, mut log) = (vec![0; 512], vec![0; 8192]);
-    Box::new(move |file| baseline::late(file, &mut stretch, &mut writer, &mut version, &mut log))
+    Box::new(move |file| find(file, &mut stretch, &mut writer, &mut version, &mut log))
 }
 
-/// The fastest and the middle time of a run, in nanoseconds for each event.
+/// The fastest time of each, in nanoseconds for each event. The two take turns, so that both meet the same moments of the machine.
 struct Times {
-    fastest: f64,
-    middle: f64,
+    proved: f64,
+    baseline: f64,
 }
 
-fn time(finder: &mut Finder, input: &Input, repetitions: usize) -> Result<Times, String> {
-    let mut times = Vec::new();
-    for _ in 0..repetitions {
-        let start = Instant::now();
-        let answer = (finder.answer)(&input.file);
-        times.push(start.elapsed().as_nanos() as f64 / input.recording.events.len() as f64);
-        if answer != Answer::Accepted {
-            return Err(format!(
-                "{} does not accept {}: {answer:?}",
-                finder.name, input.name
-            ));
-        }
+/// One call, which must accept: every input is a recording with no clash.
+fn call(find: &mut Find, input: &Input) -> Result<f64, String> {
+    let start = Instant::now();
+    let answer = find(&input.file);
+    let time = start.elapsed().as_nanos() as f64 / input.recording.events.len() as f64;
+    if answer == Answer::Accepted {
+        Ok(time)
+    } else {
+        Err(format!("{} is not accepted: {answer:?}", input.name))
     }
-    times.sort_by(f64::total_cmp);
-    Ok(Times {
-        fastest: times[0],
-        middle: times[times.len() / 2],
-    })
+}
+
+fn time(pair: &mut Pair, input: &Input, repetitions: usize) -> Result<Times, String> {
+    let mut times = Times {
+        proved: f64::INFINITY,
+        baseline: f64::INFINITY,
+    };
+    for _ in 0..repetitions {
+        times.proved = times.proved.min(call(&mut pair.proved, input)?);
+        times.baseline = times.baseline.min(call(&mut pair.baseline, input)?);
+    }
+    Ok(times)
 }
 
 fn machine() -> String {
@@ -87,12 +99,13 @@ fn machine() -> String {
 
 fn time_all(repetitions: usize) -> Result<(), String> {
     println!("machine: {}", machine());
-    println!("{repetitions} repetitions; nanoseconds for each event, fastest and middle");
+    println!("fastest of {repetitions} calls, in nanoseconds for each event; a call checks the file, clears the tables and searches");
     for input in inputs::all() {
         println!("{}", input.describe());
-        for mut finder in finders() {
-            let Times { fastest, middle } = time(&mut finder, &input, repetitions)?;
-            println!("  {:<16} {fastest:>7.2} {middle:>7.2}", finder.name);
+        for mut pair in pairs() {
+            let Times { proved, baseline } = time(&mut pair, &input, repetitions)?;
+            let ratio = proved / baseline;
+            println!("  {:<6} proved {proved:>7.2}   Rust baseline {baseline:>7.2}   ratio {ratio:.2}", pair.name);
         }
     }
     Ok(())
@@ -162,6 +175,15 @@ mod tests {
 
     #[test]
     fn the_baselines_answer_as_the_reference() {
+        answers_as_the_reference(baseline::early, baseline::late);
+    }
+
+    #[test]
+    fn the_linked_finders_answer_as_the_reference() {
+        answers_as_the_reference(proved::early, proved::late);
+    }
+
+    fn answers_as_the_reference(find_early: Early, find_late: Late) {
         let plan = Plan {
             seed: 1,
             count: 3000,
@@ -170,8 +192,8 @@ mod tests {
         for request in stream::requests(plan).expect("the case files are good") {
             let mut tables = request.lengths.map(|length| vec![5; length]);
             let [stretch, writer, readers, late_stretch, late_writer, version, log] = &mut tables;
-            let early = baseline::early(&request.file, stretch, writer, readers);
-            let late = baseline::late(&request.file, late_stretch, late_writer, version, log);
+            let early = find_early(&request.file, stretch, writer, readers);
+            let late = find_late(&request.file, late_stretch, late_writer, version, log);
             let expected = request.expected();
             assert_eq!(early, of_reference(expected.early));
             assert_eq!(late, of_reference(expected.late));
@@ -201,8 +223,9 @@ mod tests {
     fn both_verdicts_accept_every_input() {
         for input in inputs::all() {
             assert_eq!(input.recording.events.len(), 16_000);
-            for mut finder in finders() {
-                assert_eq!((finder.answer)(&input.file), Answer::Accepted);
+            for mut pair in pairs() {
+                assert_eq!((pair.proved)(&input.file), Answer::Accepted);
+                assert_eq!((pair.baseline)(&input.file), Answer::Accepted);
             }
         }
     }

@@ -1,0 +1,31 @@
+-- What each way through the linked functions gives.
+use mathlib.Core.Path.{_≡_, sym, _∙_}
+use mathlib.Core.List.{List, [], _∷_}
+use Prim.Native.Nat.{ℕ}
+use Rattle.sorts.specs.declared.Worker.{Worker}
+use Rattle.sorts.specs.declared.Field.{Field}
+use Rattle.tables.specs.declared.Answer.{Answer}
+use Rattle.tables.specs.declared.Answer.the-variants.{Refused, Accepted, Reported}
+use Rattle.tables.specs.Answers.{saidBy}
+use Rattle.early.specs.Finds as early
+use Rattle.late.specs.Finds as late
+use Rattle.linked.specs.Rows.{rowOf, earlySaid, EarlyLinked, lateSaid, LateLinked}
+
+module _ (answer : Answer) where
+  pub row-refused : (number place : ℕ) → answer ≡ Refused number place → _≡_ {A = List ℕ} (0 ∷ number ∷ place ∷ 0 ∷ 0 ∷ 0 ∷ []) (rowOf (saidBy answer))
+  row-refused number place q = rw q
+
+  pub row-accepted : answer ≡ Accepted → _≡_ {A = List ℕ} (1 ∷ 0 ∷ 0 ∷ 0 ∷ 0 ∷ 0 ∷ []) (rowOf (saidBy answer))
+  row-accepted q = rw q
+
+  pub row-reported : (n s : ℕ) (w u : Worker) (f : Field) → answer ≡ Reported n s w u f
+      → _≡_ {A = List ℕ} (2 ∷ n ∷ s ∷ w .0 ∷ u .0 ∷ f .0 ∷ []) (rowOf (saidBy answer))
+  row-reported n s w u f q = rw q
+
+module _ (file S₀ Wr₀ Rd₀ S Wr Rd row : List ℕ) (answer : Answer) where
+  pub early-linked : early.Finds file S₀ Wr₀ Rd₀ (saidBy answer) S Wr Rd → row ≡ rowOf (saidBy answer) → EarlyLinked file S₀ Wr₀ Rd₀ S Wr Rd row
+  early-linked finds q = record { row-is = rw (← finds .answers) q; finds = rw (← finds .answers) finds }
+
+module _ (file S₀ Wr₀ Vr₀ Lg₀ S Wr Vr Lg row : List ℕ) (answer : Answer) where
+  pub late-linked : late.Finds file S₀ Wr₀ Vr₀ Lg₀ (saidBy answer) S Wr Vr Lg → row ≡ rowOf (saidBy answer) → LateLinked file S₀ Wr₀ Vr₀ Lg₀ S Wr Vr Lg row
+  late-linked finds q = record { row-is = rw (← finds .answers) q; finds = rw (← finds .answers) finds }
