@@ -3,3 +3,4 @@ pub mod Lent
 pub mod Laws
 pub mod Shown
 pub mod Files
+pub mod Runs

@@ -1,0 +1,237 @@
+-- What each way through the code's functions answers, over plain numbers and lists.
+use mathlib.Core.Path.{_≡_, refl, _∙_}
+use mathlib.Core.Bool.{Bool, true, false, not, and-false}
+use mathlib.Core.List.{List}
+use Prim.Native.Nat.{ℕ, zero, suc, _+_, _*_, _-_, _<_, _≤_}
+use native.Mathlib.Nat.{sub-zero}
+use native.Mathlib.Omega.{arith}
+use lib.Dec.{eqb}
+use lib.ListN.{getD, set}
+use borrow.Author.Tests.{lt-ltb, le-ltb, le-leb, lt-leb, ne-eqb}
+use Rattle.sorts.specs.declared.Worker.{Worker}
+use Rattle.sorts.specs.declared.Field.{Field}
+use Rattle.sorts.specs.Words.{joined, workerIn}
+use Rattle.events.specs.declared.Event.{Event}
+use Rattle.events.specs.declared.Event.the-variants.{Read, Write, Crossing}
+use Rattle.events.specs.Acts.{Act, actsOf, writes}
+use Rattle.events.specs.Words.{once, staleByWords}
+use Rattle.events.specs.Search.{lowest}
+use Rattle.events.specs.Verdicts.{accepted, reported, firstOf, endBy}
+use Rattle.events.proofs.Search.{found}
+use Rattle.tables.specs.declared.Other.{Other}
+use Rattle.tables.specs.declared.Other.the-variants.{Worker as Other-worker, Nobody}
+use Rattle.tables.specs.declared.Verdict.{Verdict}
+use Rattle.tables.specs.declared.Verdict.the-variants.{Accepted, Reported}
+use Rattle.tables.specs.Answers.{foundOf, verdictOf}
+use Rattle.tables.specs.Steps.{writerBy, stretchWith, stretchAfter, writerWith, writerAfter}
+use Rattle.late.specs.declared.Stale.{Stale}
+use Rattle.late.specs.declared.Stale.the-variants.{At, Nowhere}
+use Rattle.late.specs.Stale.{staleWords, staleFieldBy, staleOr, firstStale, saidOf}
+use Rattle.late.specs.Steps.{lateMeets, wroteBy, versionWith, versionAfter, cleared, logRead, logWith, logAfter, Room, Access, Entered, Stepped}
+
+-- was w's open stretch, joined as word, the last writer of f?
+pub wrote-is : (S Wr : List ℕ) (w f word : ℕ) → word ≡ joined (getD S w 0) w → eqb (getD Wr f 0) word ≡ wroteBy S Wr w f
+unfolding wroteBy
+wrote-is S Wr w f word q = rw q
+
+-- the test of one field's words
+module _ (log version last w : ℕ) where
+  pub unlogged : log ≡ 0 → false ≡ staleByWords log version last w
+  unfolding staleByWords
+  unlogged q = rw q
+
+  pub risen-by-two : (log ≡ 0 → ⊥) → log < version → true ≡ staleByWords log version last w
+  unfolding staleByWords
+  risen-by-two q l = rw (lt-ltb 0 log (omega arith), lt-ltb log version l)
+
+  pub not-risen : version < log → false ≡ staleByWords log version last w
+  unfolding staleByWords
+  not-risen l = simp (le-ltb log version (omega arith), lt-leb log version l, and-false)
+
+  pub risen-by-one : (log ≡ 0 → ⊥) → version ≤ log → log ≤ version → not (eqb last w) ≡ staleByWords log version last w
+  unfolding staleByWords
+  risen-by-one q a b = rw (lt-ltb 0 log (omega arith), le-ltb log version a, le-leb log version b)
+
+pub stale-is : (Lg Vr Wr : List ℕ) (w f j last : ℕ) (b : Bool) → j ≡ 16 * f + w → last ≡ workerIn (getD Wr f 0)
+    → b ≡ staleByWords (getD Lg j 0) (getD Vr f 0) last w → b ≡ staleWords Lg Vr Wr w f
+unfolding staleWords
+stale-is Lg Vr Wr w f j last b p q t = t ∙ rw (p, q)
+
+-- what the search for a stale read has left from worker w's field f on, of n workers and F fields
+unfoldable pub staleFrom : ℕ → List ℕ → List ℕ → List ℕ → ℕ → ℕ → ℕ → Stale
+staleFrom F Lg Vr Wr n w f = staleOr w (lowest (staleWords Lg Vr Wr w) f (F - f)) (firstStale F Lg Vr Wr (w + 1) (n - (w + 1)))
+
+-- the search has come to worker w, or to its field f, and what is left finds x
+module _ (F : ℕ) (Lg Vr Wr : List ℕ) (n w : ℕ) (x : Stale) where
+  pub search-worker : firstStale F Lg Vr Wr w (n - w) ≡ x → w < n → staleFrom F Lg Vr Wr n w 0 ≡ x
+  unfolding firstStale staleFrom
+  search-worker i l = let q : n - w ≡ suc (n - (w + 1)) = omega arith in rw sub-zero (rw q at i)
+
+  pub search-over : (found : Stale) → firstStale F Lg Vr Wr w (n - w) ≡ x → n ≤ w → found ≡ Nowhere → found ≡ x
+  unfolding firstStale
+  search-over found i l e = let q : n - w ≡ 0 = omega arith in e ∙ (rw q at i)
+
+  module _ (f : ℕ) (i : staleFrom F Lg Vr Wr n w f ≡ x) where
+    rest : f < F → F - f ≡ suc (F - (f + 1))
+    rest l = omega arith
+
+    pub field-stale : (b : Bool) → f < F → b ≡ staleWords Lg Vr Wr w f → b ≡ true → At (record { 0 = w }) (record { 0 = f }) ≡ x
+    unfolding lowest staleFrom
+    field-stale b l t e = rw (rest l, ← t, e) at i
+
+    pub field-fresh : (b : Bool) → f < F → b ≡ staleWords Lg Vr Wr w f → b ≡ false → staleFrom F Lg Vr Wr n w (f + 1) ≡ x
+    unfolding lowest staleFrom
+    field-fresh b l t e = rw (rest l, ← t, e) at i
+
+    pub fields-over : F ≤ f → firstStale F Lg Vr Wr (w + 1) (n - (w + 1)) ≡ x
+    unfolding lowest staleFrom
+    fields-over l = let q : F - f ≡ 0 = omega arith in rw q at i
+
+-- the same search of one worker
+module _ (F : ℕ) (Lg Vr Wr : List ℕ) (w : Worker) where
+  alone : w .0 + 1 - (w .0 + 1) ≡ 0
+  alone = omega arith
+
+  pub one-worker : staleFrom F Lg Vr Wr (w .0 + 1) (w .0) 0 ≡ firstStale F Lg Vr Wr (w .0) 1
+  unfolding firstStale staleFrom
+  one-worker = rw (sub-zero, alone)
+
+  module _ (f : ℕ) (x : Stale) (i : staleFrom F Lg Vr Wr (w .0 + 1) (w .0) f ≡ x) where
+    pub one-worker-stale : (b : Bool) → f < F → b ≡ staleWords Lg Vr Wr (w .0) f → b ≡ true → At w (record { 0 = f }) ≡ x
+    one-worker-stale b l t e = field-stale F Lg Vr Wr (w .0 + 1) (w .0) x f i b l t e
+
+    pub one-worker-over : F ≤ f → Nowhere ≡ x
+    unfolding firstStale
+    one-worker-over l = rw alone at (fields-over F Lg Vr Wr (w .0 + 1) (w .0) x f i l)
+
+-- What the search found, said as document 01 says it.
+module _ (F : ℕ) (Lg Vr Wr : List ℕ) (n : ℕ) where
+  said-first : (w k : ℕ) → saidOf n (firstStale F Lg Vr Wr w k) ≡ endBy (staleFieldBy F Lg Vr Wr) n w k
+  unfolding firstStale endBy
+  said-first w zero = refl
+  said-first w (suc k) =
+      found (staleFieldBy F Lg Vr Wr w) (λ f q. rw q) (λ q. rw q (said-first (w + 1) k))
+
+  pub said-at-end : (W : ℕ) (s : Stale) (r : Verdict) → s ≡ firstStale F Lg Vr Wr 0 W → verdictOf r ≡ saidOf n s
+      → verdictOf r ≡ endBy (staleFieldBy F Lg Vr Wr) n 0 W
+  said-at-end W s r p q = q ∙ rw p (said-first 0 W)
+
+pub said-at : (n : ℕ) (s : Stale) (w : Worker) (f : Field) → s ≡ At w f → reported n 2 (w .0) 16 (f .0) ≡ saidOf n s
+said-at n s w f q = rw q
+
+-- an event's worker and field, once the code has found its kind
+module _ (F : ℕ) (e : Event) (S Wr Vr Lg : List ℕ) (room : Room F e S Wr Vr Lg) (w : Worker) where
+  access : (f : Field) → w .0 < 16 → f .0 < F → Access (w .0) (f .0) S Wr Vr
+  access f a b = record {
+    worker = a;
+    field = omega (arith, room .fields);
+    stretch = room .sized .stretch;
+    writer = room .sized .writer;
+    version = room .sized .version;
+    number = room .numbers (w .0) a;
+    counted = room .versions (f .0) b;
+  }
+
+  pub read-access : (f : Field) → e ≡ Read w f → Access (w .0) (f .0) S Wr Vr
+  read-access f q = let i = rw q at (room .inside) in access f (i .0) (i .1)
+
+  pub write-access : (f : Field) → e ≡ Write w f → Access (w .0) (f .0) S Wr Vr
+  write-access f q = let i = rw q at (room .inside) in access f (i .0) (i .1)
+
+  pub read-field : (f : Field) → e ≡ Read w f → f .0 < 512
+  read-field f q = read-access f q .field
+
+  pub write-field : (f : Field) → e ≡ Write w f → f .0 < 512
+  write-field f q = write-access f q .field
+
+  pub crossing-worker : e ≡ Crossing w → w .0 < 16
+  crossing-worker q = rw q at (room .inside)
+
+  pub crossing-number : e ≡ Crossing w → getD S (w .0) 0 < 268435456
+  crossing-number q = room .numbers (w .0) (crossing-worker q)
+
+-- what an event meets
+module _ (W F : ℕ) (S Wr Vr Lg : List ℕ) (n : ℕ) (e : Event) (w : Worker) where
+  module _ (f : Field) (o : Other) (x : foundOf o ≡ writerBy W S Wr (w .0) (f .0)) where
+    pub read-met : (u : Worker) → e ≡ Read w f → o ≡ Other-worker u → reported n 3 (w .0) (u .0) (f .0) ≡ lateMeets W F S Wr Vr Lg n (actsOf e)
+    unfolding lateMeets firstOf
+    read-met u q y = rw (q, ← x, y)
+
+    pub read-calm : e ≡ Read w f → o ≡ Nobody → accepted ≡ lateMeets W F S Wr Vr Lg n (actsOf e)
+    unfolding lateMeets firstOf
+    read-calm q y = rw (q, ← x, y)
+
+    pub write-met : (u : Worker) → e ≡ Write w f → o ≡ Other-worker u → reported n 1 (w .0) (u .0) (f .0) ≡ lateMeets W F S Wr Vr Lg n (actsOf e)
+    unfolding lateMeets firstOf
+    write-met u q y = rw (q, ← x, y)
+
+    pub write-calm : e ≡ Write w f → o ≡ Nobody → accepted ≡ lateMeets W F S Wr Vr Lg n (actsOf e)
+    unfolding lateMeets firstOf
+    write-calm q y = rw (q, ← x, y)
+
+  pub crossing-met : (s : Stale) (r : Verdict) → e ≡ Crossing w → s ≡ firstStale F Lg Vr Wr (w .0) 1 → verdictOf r ≡ saidOf n s
+      → verdictOf r ≡ lateMeets W F S Wr Vr Lg n (actsOf e)
+  unfolding lateMeets firstOf endBy
+  crossing-met s r q x y = y ∙ rw (x, q) (said-first F Lg Vr Wr n (w .0) 1)
+
+-- the version and log words with an access entered; b is whether the worker's open stretch wrote last
+module _ (S Wr Vr : List ℕ) (w f : ℕ) (b : Bool) (t : b ≡ wroteBy S Wr w f) where
+  pub counted-before : b ≡ true → Vr ≡ versionWith S Wr Vr (writes w f)
+  unfolding versionWith
+  counted-before e = rw (← t, e)
+
+  pub counted-now : b ≡ false → set Vr f (getD Vr f 0 + 1) ≡ versionWith S Wr Vr (writes w f)
+  unfolding versionWith
+  counted-now e = rw (← t, e)
+
+  pub own-not-logged : (Lg : List ℕ) → b ≡ true → Lg ≡ logRead S Wr Vr Lg w f
+  unfolding logRead
+  own-not-logged Lg e = rw (← t, e)
+
+  pub logged-now : (Lg : List ℕ) (j word : ℕ) → b ≡ false → j ≡ 16 * f + w → word ≡ once (getD Lg j 0) (getD Vr f 0 + 1)
+      → set Lg j word ≡ logRead S Wr Vr Lg w f
+  unfolding logRead
+  logged-now Lg j word e p q = rw (← t, e, q, p)
+
+module _ (log new : ℕ) where
+  pub first-logged : log ≡ 0 → new ≡ once log new
+  unfolding once
+  first-logged q = rw q
+
+  pub logged-stays : (log ≡ 0 → ⊥) → log ≡ once log new
+  unfolding once
+  logged-stays q = rw (ne-eqb log 0 q)
+
+-- an event entered
+module _ (F : ℕ) (e : Event) (w : Worker) (S Wr Vr Lg : List ℕ) where
+  pub entered-read : (f : Field) (new : List ℕ) → e ≡ Read w f → new ≡ logRead S Wr Vr Lg (w .0) (f .0)
+      → Entered F (actsOf e) S Wr Vr Lg S Wr Vr new
+  unfolding stretchAfter stretchWith writerAfter writerWith versionAfter versionWith logAfter logWith
+  entered-read f new q x = record { stretch = rw q; writer = rw q; version = rw q; log = rw q x }
+
+  pub entered-write : (f : Field) (Wr′ Vr′ : List ℕ) → e ≡ Write w f → Wr′ ≡ set Wr (f .0) (joined (getD S (w .0) 0) (w .0))
+      → Vr′ ≡ versionWith S Wr Vr (writes (w .0) (f .0)) → Entered F (actsOf e) S Wr Vr Lg S Wr′ Vr′ Lg
+  unfolding stretchAfter stretchWith writerAfter writerWith versionAfter logAfter logWith
+  entered-write f Wr′ Vr′ q x y = record { stretch = rw q; writer = rw q x; version = rw q y; log = rw q }
+
+  pub entered-crossing : (S′ Lg′ : List ℕ) → e ≡ Crossing w → S′ ≡ set S (w .0) (getD S (w .0) 0 + 1) → Lg′ ≡ cleared Lg (w .0) F
+      → Entered F (actsOf e) S Wr Vr Lg S′ Wr Vr Lg′
+  unfolding stretchAfter stretchWith writerAfter writerWith versionAfter versionWith logAfter logWith
+  entered-crossing S′ Lg′ q x y = record { stretch = rw q x; writer = rw q; version = rw q; log = rw q y }
+
+-- the step
+module _ (W F n : ℕ) (e : List Act) (r : Verdict) (S₀ Wr₀ Vr₀ Lg₀ : List ℕ) (a : verdictOf r ≡ lateMeets W F S₀ Wr₀ Vr₀ Lg₀ n e) where
+  pub stepped-accepted : (S Wr Vr Lg : List ℕ) → r ≡ Accepted → Entered F e S₀ Wr₀ Vr₀ Lg₀ S Wr Vr Lg
+      → Stepped W F n e (verdictOf r) S₀ Wr₀ Vr₀ Lg₀ S Wr Vr Lg
+  stepped-accepted S Wr Vr Lg q x = record {
+    answer = a;
+    stretch = rw q (x .stretch);
+    writer = rw q (x .writer);
+    version = rw q (x .version);
+    log = rw q (x .log);
+  }
+
+  pub stepped-reported : (m s : ℕ) (w u : Worker) (f : Field) → r ≡ Reported m s w u f
+      → Stepped W F n e (verdictOf r) S₀ Wr₀ Vr₀ Lg₀ S₀ Wr₀ Vr₀ Lg₀
+  unfolding stretchAfter writerAfter versionAfter logAfter
+  stepped-reported m s w u f q = record { answer = a; stretch = rw q; writer = rw q; version = rw q; log = rw q }

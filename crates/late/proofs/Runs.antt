@@ -1,0 +1,185 @@
+-- The finder's loop: what holds before event n, and what each way on gives.
+use mathlib.Core.Path.{_≡_, refl, sym, _∙_, ap}
+use mathlib.Core.List.{List, []}
+use Prim.Native.Nat.{ℕ, _+_, _<_, _≤_}
+use native.Mathlib.Omega.{arith}
+use lib.ListN.{length}
+use Rattle.sorts.specs.declared.Worker.{Worker}
+use Rattle.sorts.specs.declared.Field.{Field}
+use Rattle.events.specs.declared.Event.{Event}
+use Rattle.events.specs.Acts.{Act, History, actsOf, recordingOf, before}
+use Rattle.events.specs.Clashes.{OnWritten, Some}
+use Rattle.events.specs.Words.{stretchWord, writerWord, versionWord, logWord}
+use Rattle.events.specs.Verdicts.{accepted, reported, firstOf, staleField, endBy, lateLook}
+use Rattle.events.specs.Verdicts as papers
+use Rattle.events.proofs.Histories.{ActsWithin, Sound}
+use Rattle.events.proofs.Walks.{not-both}
+use Rattle.events.proofs.Late.{LateLooked, passed, stopped, late-looked, EndLooked, all-passed, one-stopped, end-looked}
+use Rattle.recording.specs.declared.Counts.{Counts}
+use Rattle.recording.specs.File.{eventAt, eventsIn}
+use Rattle.recording.proofs.Guarantee.{Guarantee, guarantee}
+use Rattle.tables.specs.declared.Verdict.{Verdict}
+use Rattle.tables.specs.declared.Verdict.the-variants.{Accepted, Reported}
+use Rattle.tables.specs.Lent.{cells}
+use Rattle.tables.specs.Answers.{verdictOf}
+use Rattle.tables.specs.Finds.{shownBy}
+use Rattle.tables.proofs.Lent.{shown-length}
+use Rattle.tables.proofs.Files.{file-sound}
+use Rattle.tables.proofs.Runs.{Sees, Reached, reached-start, reached-next, reached-stop, reached-end, now-within, event-within, history-next, history-stop, history-end}
+use Rattle.late.specs.Stale.{staleFieldBy}
+use Rattle.late.specs.Steps.{Room, Stepped}
+use Rattle.late.specs.Runs.{Shows, Ready, Ran}
+use Rattle.late.proofs.Shown.{room-shown, end-shown, step-says, step-passed, step-stopped}
+
+-- what the late look passes met no open stretch that had written its field, and what it reports bears the event's number
+late-sees : (W F : ℕ) → W ≤ 16 → Sees (lateLook F) W F
+late-sees W F few = record {
+  calm = λ h i n e q s. calm h n e q s (late-looked W F few h i n e);
+  number = λ h i n e m s w u f q. number h n e m s w u f q (late-looked W F few h i n e);
+}
+  where
+    calm : (h : History) (n : ℕ) (e : List Act) → firstOf (lateLook F h n) e ≡ accepted → Some (OnWritten h) e → LateLooked F h n e (firstOf (lateLook F h n) e) → ⊥
+    calm h n e q s (passed _ z _) = z s
+    calm h n e q s (stopped a w u f k _) = not-both (firstOf (lateLook F h n) e) n a w u f q k
+
+    number : (h : History) (n : ℕ) (e : List Act) (m s w u f : ℕ) → firstOf (lateLook F h n) e ≡ reported m s w u f → LateLooked F h n e (firstOf (lateLook F h n) e) → m ≡ n
+    number h n e m s w u f q (passed k _ _) = not-both (firstOf (lateLook F h n) e) m s w u f k q
+    number h n e m s w u f q (stopped a b d g k _) = cc
+
+-- what is said after the last event
+abbrev end : ℕ → ℕ → History → ℕ → papers.Verdict
+end W F h n = endBy (staleField F h) n 0 W
+
+-- the events before n were passed and are entered; the tables were S₀, Wr₀, Vr₀, Lg₀ at the start
+pub record Running (file : List ℕ) (counts : Counts) (S₀ Wr₀ Vr₀ Lg₀ S Wr Vr Lg : List ℕ) (n : ℕ) : Type 0 where
+  pub low : n ≤ counts .events
+  pub short : counts .events ≤ 16000
+  pub so-far : Reached (lateLook (counts .fields)) (end (counts .workers) (counts .fields)) file n
+  pub shows : Shows (counts .workers) (before [] (recordingOf (eventsIn file)) n) S₀ Wr₀ Vr₀ Lg₀ S Wr Vr Lg
+  pub stretch-length : length S ≡ length S₀
+  pub writer-length : length Wr ≡ length Wr₀
+  pub version-length : length Vr ≡ length Vr₀
+  pub log-length : length Lg ≡ length Lg₀
+
+-- the lengths are what the tables shown say
+running : (file : List ℕ) (counts : Counts) (S₀ Wr₀ Vr₀ Lg₀ S Wr Vr Lg : List ℕ) (n : ℕ) → n ≤ counts .events → counts .events ≤ 16000
+    → Reached (lateLook (counts .fields)) (end (counts .workers) (counts .fields)) file n
+    → Shows (counts .workers) (before [] (recordingOf (eventsIn file)) n) S₀ Wr₀ Vr₀ Lg₀ S Wr Vr Lg
+    → Running file counts S₀ Wr₀ Vr₀ Lg₀ S Wr Vr Lg n
+running file counts S₀ Wr₀ Vr₀ Lg₀ S Wr Vr Lg n l k p shows = record {
+  low = l;
+  short = k;
+  so-far = p;
+  shows = shows;
+  stretch-length = shows .stretch .same-length;
+  writer-length = shows .writer .same-length;
+  version-length = shows .version .same-length;
+  log-length = shows .log .same-length;
+}
+
+module _ (file : List ℕ) (counts : Counts) (S₀ Wr₀ Vr₀ Lg₀ : List ℕ) (ready : Ready file counts S₀ Wr₀ Vr₀ Lg₀) where
+  good : Guarantee file counts
+  good = guarantee file counts (ready .checked)
+
+  sound : Sound (counts .workers) (counts .fields) (recordingOf (eventsIn file))
+  sound = file-sound file counts good
+
+  sees : Sees (lateLook (counts .fields)) (counts .workers) (counts .fields)
+  sees = late-sees (counts .workers) (counts .fields) (good .few-workers)
+
+  pub run-start : Running file counts S₀ Wr₀ Vr₀ Lg₀ S₀ Wr₀ Vr₀ Lg₀ 0
+  unfolding before
+  run-start =
+      running file counts S₀ Wr₀ Vr₀ Lg₀ S₀ Wr₀ Vr₀ Lg₀ 0 (omega arith) (good .few-events)
+      (reached-start (lateLook (counts .fields)) (end (counts .workers) (counts .fields)) (counts .workers) (counts .fields) sees file counts good sound)
+      (ready .empty)
+
+  -- before event n
+  module _ (S Wr Vr Lg : List ℕ) (n : ℕ) (run : Running file counts S₀ Wr₀ Vr₀ Lg₀ S Wr Vr Lg n) where
+    abbrev now : History
+    now = before [] (recordingOf (eventsIn file)) n
+
+    inside : ActsWithin (counts .workers) (counts .fields) now
+    inside =
+        now-within (lateLook (counts .fields)) (end (counts .workers) (counts .fields)) (counts .workers) (counts .fields) sees file counts good sound n (run .so-far)
+
+    -- the counts and the lengths that the search at the end asks for
+    pub end-workers : counts .workers ≤ 16
+    end-workers = good .few-workers
+
+    pub end-fields : counts .fields ≤ 512
+    end-fields = good .few-fields
+
+    pub end-writer : 512 ≤ length Wr
+    end-writer = shown-length 512 (writerWord now) Wr₀ Wr (run .shows .writer)
+
+    pub end-version : 512 ≤ length Vr
+    end-version = shown-length 512 (versionWord now) Vr₀ Vr (run .shows .version)
+
+    pub end-log : 8192 ≤ length Lg
+    end-log = shown-length 8192 (cells (logWord now)) Lg₀ Lg (run .shows .log)
+
+    -- after the last event
+    pub run-end : (v : papers.Verdict) → counts .events ≤ n → v ≡ endBy (staleFieldBy (counts .fields) Lg Vr Wr) (counts .events) 0 (counts .workers)
+        → Ran file counts v S₀ Wr₀ Vr₀ Lg₀ S Wr Vr Lg
+    run-end v l q = record {
+      answer = says ∙ sym (reached-end (lateLook (counts .fields)) (end (counts .workers) (counts .fields)) (counts .workers) (counts .fields) sees file counts good sound n (run .so-far) l);
+      shows = rw (all-shown (end-looked (counts .fields) now n 0 (counts .workers))) (run .shows);
+    }
+      where
+        here : counts .events ≡ n
+        here = omega (arith, run .low)
+
+        says : v ≡ endBy (staleField (counts .fields) now) n 0 (counts .workers)
+        says =
+            q ∙ rw here
+            (end-shown (counts .workers) (counts .fields) (good .few-workers) (good .few-fields) S₀ Wr₀ Vr₀ Lg₀ now inside (run .so-far .calm) S Wr Vr Lg (run .shows) n)
+
+        all-shown : EndLooked (counts .fields) now n 0 (counts .workers) (endBy (staleField (counts .fields) now) n 0 (counts .workers)) → shownBy file v ≡ now
+        all-shown (all-passed k _) =
+            rw (says ∙ k)
+            (history-end (lateLook (counts .fields)) (end (counts .workers) (counts .fields)) (counts .workers) (counts .fields) sees file counts good sound (ready .checked) n (run .low) l)
+        all-shown (one-stopped u f k _) = rw (says ∙ k)
+
+    module _ (l : n < counts .events) where
+      abbrev event : List Act
+      event = actsOf (eventAt file n)
+
+      event-inside : ActsWithin (counts .workers) (counts .fields) event
+      event-inside =
+          event-within (lateLook (counts .fields)) (end (counts .workers) (counts .fields)) (counts .workers) (counts .fields) sees file counts good sound n (run .so-far) l
+
+      pub run-room : (e : Event) → e ≡ eventAt file n → Room (counts .fields) e S Wr Vr Lg
+      run-room e q =
+          rw q
+          (room-shown (counts .workers) (counts .fields) (good .few-workers) (good .few-fields) (eventsIn file) n (omega (arith, run .short)) (eventAt file n) (good .event-within n l) S₀ Wr₀ Vr₀ Lg₀ S Wr Vr Lg (run .shows))
+
+      module _ (e : Event) (q : e ≡ eventAt file n) (r : Verdict) (S′ Wr′ Vr′ Lg′ : List ℕ)
+          (step : Stepped (counts .workers) (counts .fields) n (actsOf e) (verdictOf r) S Wr Vr Lg S′ Wr′ Vr′ Lg′) where
+        -- what the words say of event n is the late look at it
+        stepped : Stepped (counts .workers) (counts .fields) n event (verdictOf r) S Wr Vr Lg S′ Wr′ Vr′ Lg′
+        stepped = rw q at step
+
+        says : verdictOf r ≡ firstOf (lateLook (counts .fields) now n) event
+        says =
+            step-says (counts .workers) (counts .fields) (good .few-workers) (good .few-fields) now inside n event event-inside (verdictOf r) S₀ Wr₀ Vr₀ Lg₀ S Wr Vr Lg S′ Wr′ Vr′ Lg′ (run .shows) stepped (run .so-far .calm)
+
+        pub run-next : r ≡ Accepted → Running file counts S₀ Wr₀ Vr₀ Lg₀ S′ Wr′ Vr′ Lg′ (n + 1)
+        run-next o =
+            let later =
+            reached-next (lateLook (counts .fields)) (end (counts .workers) (counts .fields)) (counts .workers) (counts .fields) sees file counts good sound n (run .so-far) l
+            (sym says ∙ ap verdictOf o) in
+            let history = history-next (lateLook (counts .fields)) (end (counts .workers) (counts .fields)) (counts .workers) (counts .fields) sees file counts good sound n (run .so-far) l in
+            running file counts S₀ Wr₀ Vr₀ Lg₀ S′ Wr′ Vr′ Lg′ (n + 1) (omega arith) (run .short) later
+            (rw history
+            (step-passed (counts .workers) (counts .fields) (good .few-workers) (good .few-fields) now inside n event event-inside (verdictOf r) S₀ Wr₀ Vr₀ Lg₀ S Wr Vr Lg S′ Wr′ Vr′ Lg′ (run .shows) stepped (ap verdictOf o) (rw history at (later .calm))))
+
+        pub run-stop : (m a : ℕ) (w u : Worker) (f : Field) → r ≡ Reported m a w u f → Ran file counts (verdictOf r) S₀ Wr₀ Vr₀ Lg₀ S′ Wr′ Vr′ Lg′
+        run-stop m a w u f o =
+            let o′ = ap verdictOf o in
+            record {
+              answer = o′ ∙ sym (reached-stop (lateLook (counts .fields)) (end (counts .workers) (counts .fields)) (counts .workers) (counts .fields) sees file counts good sound n (run .so-far) l m a (w .0) (u .0) (f .0) (sym says ∙ o′));
+              shows =
+                  rw (history-stop (lateLook (counts .fields)) (end (counts .workers) (counts .fields)) (counts .workers) (counts .fields) sees file counts good sound n (run .so-far) l (verdictOf r) m a (w .0) (u .0) (f .0) says o′)
+                  (step-stopped (counts .workers) (counts .fields) (good .few-workers) (good .few-fields) now inside n event event-inside (verdictOf r) S₀ Wr₀ Vr₀ Lg₀ S Wr Vr Lg S′ Wr′ Vr′ Lg′ (run .shows) stepped m a (w .0) (u .0) (f .0) o′);
+            }

@@ -1,0 +1,359 @@
+// The late finder: it counts the stretches that write a field, logs the version that a stretch has read, and looks at the log when a
+// stretch closes.
+ghost use mathlib.Core.Path.{_≡_};
+ghost use Prim.Native.Nat.{_+_, _*_, _<_, _≤_};
+ghost use mathlib.Core.List.{[]};
+ghost use lib.ListN.{length, getD, set};
+ghost use Rattle.sorts.specs.Words.{joined};
+ghost use Rattle.events.specs.Acts.{actsOf, writes};
+ghost use Rattle.events.specs.Words.{once, staleByWords};
+ghost use Rattle.events.specs.Verdicts.{endBy};
+ghost use Rattle.recording.specs.File.{Accepted};
+ghost use Rattle.tables.specs.Answers.{verdictOf, saidBy};
+ghost use Rattle.late.specs.Stale.{staleWords, staleFieldBy, firstStale, saidOf};
+ghost use Rattle.late.specs.Steps.{lateMeets, wroteBy, versionWith, logRead, cleared, Sized, Room, Access, Entered, Stepped};
+ghost use Rattle.late.specs.Runs.{Shows, Ready, Ran};
+ghost use Rattle.late.specs.Finds.{Finds};
+use events::Event;
+use recording::Checked;
+use recording::Counts;
+use sorts::Epoch;
+use sorts::Field;
+use sorts::Stretch;
+use sorts::Version;
+use sorts::Worker;
+use tables::Answer;
+use tables::Other;
+use tables::Verdict;
+
+// What a search for a stale read finds.
+enum Stale {
+    // The worker whose open stretch has read the field, and the field.
+    At(Worker, Field),
+    Nowhere,
+}
+
+// The log word of worker w and field f stands here.
+fn place(w: Worker, f: Field) -> usize
+    requires { ⌜ (w .0 < 16) × (f .0 < 512) ⌝ }
+    ensures { λ r. ⌜ r ≡ 16 * f .0 + w .0 ⌝ }
+{
+    (Worker::LIMIT * f.0 + w.0) as usize
+}
+
+// Was worker w's open stretch the last writer of field f?
+fn wrote_by(stretch: &[u32], writer: &[u32], w: Worker, f: Field) -> bool
+    requires { ⌜ (w .0 < 16) × (f .0 < 512) × (16 ≤ length (now stretch)) × (512 ≤ length (now writer)) × (getD (now stretch) (w .0) 0 < 268435456) ⌝ }
+    ensures { λ r. ⌜ r ≡ wroteBy (now (stretch .entry)) (now (writer .entry)) (w .0) (f .0) ⌝ }
+{
+    let i = w.0 as usize;
+    let j = f.0 as usize;
+    let open = Epoch {
+        stretch: Stretch(stretch[i]),
+        worker: w,
+    };
+    writer[j] == open.join()
+}
+
+// Has another worker written since w's open stretch logged the version?
+fn stale_by_words(log: u32, version: Version, last: Worker, w: Worker) -> bool
+    ensures { λ r. ⌜ r ≡ staleByWords log (version .0) (last .0) (w .0) ⌝ }
+{
+    if log == 0 {
+        return false;
+    }
+    if log < version.0 {
+        return true;
+    }
+    if version.0 < log {
+        return false;
+    }
+    last.0 != w.0
+}
+
+// Has w's open stretch a stale read of f?
+fn stale_at(writer: &[u32], version: &[u32], log: &[u32], w: Worker, f: Field) -> bool
+    requires { ⌜ (w .0 < 16) × (f .0 < 512) × (512 ≤ length (now writer)) × (512 ≤ length (now version)) × (8192 ≤ length (now log)) ⌝ }
+    ensures { λ r. ⌜ r ≡ staleWords (now (log .entry)) (now (version .entry)) (now (writer .entry)) (w .0) (f .0) ⌝ }
+{
+    let i = f.0 as usize;
+    let j = place(w, f);
+    let now = Version(version[i]);
+    let last = Epoch::part(writer[i]);
+    stale_by_words(log[j], now, last.worker, w)
+}
+
+// The lowest field of which w's open stretch has a stale read.
+fn stale_field(writer: &[u32], version: &[u32], log: &[u32], fields: u32, w: Worker) -> Stale
+    requires { ⌜ (w .0 < 16) × (fields ≤ 512) × (512 ≤ length (now writer)) × (512 ≤ length (now version)) × (8192 ≤ length (now log)) ⌝ }
+    ensures { λ r. ⌜ r ≡ firstStale fields (now (log .entry)) (now (version .entry)) (now (writer .entry)) (w .0) 1 ⌝ }
+{
+    for f in 0..fields {
+        if stale_at(writer, version, log, w, Field(f)) {
+            return Stale::At(w, Field(f));
+        }
+    }
+    Stale::Nowhere
+}
+
+// The first worker and field with a stale read, lowest worker first and then lowest field.
+fn first_stale(writer: &[u32], version: &[u32], log: &[u32], workers: u32, fields: u32) -> Stale
+    requires { ⌜ (workers ≤ 16) × (fields ≤ 512) × (512 ≤ length (now writer)) × (512 ≤ length (now version)) × (8192 ≤ length (now log)) ⌝ }
+    ensures { λ r. ⌜ r ≡ firstStale fields (now (log .entry)) (now (version .entry)) (now (writer .entry)) 0 workers ⌝ }
+{
+    let mut found = Stale::Nowhere;
+    'search: for w in 0..workers {
+        for f in 0..fields {
+            if stale_at(writer, version, log, Worker(w), Field(f)) {
+                found = Stale::At(Worker(w), Field(f));
+                break 'search;
+            }
+        }
+    }
+    found
+}
+
+// A stale read is reported at event n, and the worker that wrote is not recorded.
+fn said_of(n: u32, s: Stale) -> Verdict
+    ensures { λ r. ⌜ verdictOf r ≡ saidOf n s ⌝ }
+{
+    match s {
+        Stale::At(w, f) => Verdict::Reported(n, 2, w, Worker(Worker::LIMIT), f),
+        Stale::Nowhere => Verdict::Accepted,
+    }
+}
+
+// What event n meets.
+fn look(
+    stretch: &[u32],
+    writer: &[u32],
+    version: &[u32],
+    log: &[u32],
+    workers: u32,
+    fields: u32,
+    n: u32,
+    e: Event,
+) -> Verdict
+    requires { ⌜ Room fields e (now stretch) (now writer) (now version) (now log) ⌝ }
+    ensures { λ r. ⌜ verdictOf r ≡ lateMeets workers fields (now (stretch .entry)) (now (writer .entry)) (now (version .entry)) (now (log .entry)) n (actsOf e) ⌝ }
+{
+    match e {
+        Event::Read(w, f) => match tables::other_writer(stretch, writer, workers, w, f) {
+            Other::Worker(u) => Verdict::Reported(n, 3, w, u, f),
+            Other::Nobody => Verdict::Accepted,
+        },
+        Event::Write(w, f) => match tables::other_writer(stretch, writer, workers, w, f) {
+            Other::Worker(u) => Verdict::Reported(n, 1, w, u, f),
+            Other::Nobody => Verdict::Accepted,
+        },
+        Event::Crossing(w) => said_of(n, stale_field(writer, version, log, fields, w)),
+    }
+}
+
+// The log word after a read at this version: it stays unless it is 0.
+fn logged(log: u32, version: Version) -> u32
+    requires { ⌜ version .0 < 4294967295 ⌝ }
+    ensures { λ r. ⌜ r ≡ once log (version .0 + 1) ⌝ }
+{
+    if log == 0 { version.0 + 1 } else { log }
+}
+
+// Worker w's read of field f: a stretch does not log what it has written last itself.
+fn enter_read(
+    stretch: &[u32],
+    writer: &[u32],
+    version: &[u32],
+    log: &mut [u32],
+    w: Worker,
+    f: Field,
+)
+    requires { ⌜ Access (w .0) (f .0) (now stretch) (now writer) (now version) × (8192 ≤ length (now log)) ⌝ }
+    ensures { λ _. ⌜ now (log .exit) ≡ logRead (now (stretch .entry)) (now (writer .entry)) (now (version .entry)) (now (log .entry)) (w .0) (f .0) ⌝ }
+{
+    let own = wrote_by(stretch, writer, w, f);
+    if own {
+        return;
+    }
+    let i = f.0 as usize;
+    let j = place(w, f);
+    let seen = Version(version[i]);
+    log[j] = logged(log[j], seen);
+}
+
+// The version at worker w's write of field f, which is yet to be entered: a stretch counts once.
+fn count_write(stretch: &[u32], writer: &[u32], version: &mut [u32], w: Worker, f: Field)
+    requires { ⌜ Access (w .0) (f .0) (now stretch) (now writer) (now version) ⌝ }
+    ensures { λ _. ⌜ now (version .exit) ≡ versionWith (now (stretch .entry)) (now (writer .entry)) (now (version .entry)) (writes (w .0) (f .0)) ⌝ }
+{
+    let counted = wrote_by(stretch, writer, w, f);
+    if counted {
+        return;
+    }
+    let i = f.0 as usize;
+    version[i] += 1;
+}
+
+// Worker w's write of field f: the version goes by the writer word before the write.
+fn enter_write(stretch: &[u32], writer: &mut [u32], version: &mut [u32], w: Worker, f: Field)
+    requires { ⌜ Access (w .0) (f .0) (now stretch) (now writer) (now version) ⌝ }
+    ensures { λ _. ⌜ (now (writer .exit) ≡ set (now (writer .entry)) (f .0) (joined (getD (now (stretch .entry)) (w .0) 0) (w .0))) × (now (version .exit) ≡ versionWith (now (stretch .entry)) (now (writer .entry)) (now (version .entry)) (writes (w .0) (f .0))) ⌝ }
+{
+    count_write(stretch, writer, version, w, f);
+    tables::enter_write(stretch, writer, w, f);
+}
+
+// Worker w's log words of the fields that exist become 0.
+fn clear_log(log: &mut [u32], fields: u32, w: Worker)
+    requires { ⌜ (w .0 < 16) × (fields ≤ 512) × (8192 ≤ length (now log)) ⌝ }
+    ensures { λ _. ⌜ now (log .exit) ≡ cleared (now (log .entry)) (w .0) fields ⌝ }
+{
+    for f in 0..fields {
+        let j = place(w, Field(f));
+        log[j] = 0;
+    }
+}
+
+// Worker w's crossing.
+fn enter_crossing(stretch: &mut [u32], log: &mut [u32], fields: u32, w: Worker)
+    requires { ⌜ (w .0 < 16) × (fields ≤ 512) × (16 ≤ length (now stretch)) × (8192 ≤ length (now log)) × (getD (now stretch) (w .0) 0 < 268435456) ⌝ }
+    ensures { λ _. ⌜ (now (stretch .exit) ≡ set (now (stretch .entry)) (w .0) (getD (now (stretch .entry)) (w .0) 0 + 1)) × (now (log .exit) ≡ cleared (now (log .entry)) (w .0) fields) ⌝ }
+{
+    tables::enter_crossing(stretch, w);
+    clear_log(log, fields, w);
+}
+
+// An event that is not reported.
+fn enter(
+    stretch: &mut [u32],
+    writer: &mut [u32],
+    version: &mut [u32],
+    log: &mut [u32],
+    fields: u32,
+    e: Event,
+)
+    requires { ⌜ Room fields e (now stretch) (now writer) (now version) (now log) ⌝ }
+    ensures { λ _. ⌜ Entered fields (actsOf e) (now (stretch .entry)) (now (writer .entry)) (now (version .entry)) (now (log .entry)) (now (stretch .exit)) (now (writer .exit)) (now (version .exit)) (now (log .exit)) ⌝ }
+{
+    match e {
+        Event::Read(w, f) => enter_read(stretch, writer, version, log, w, f),
+        Event::Write(w, f) => enter_write(stretch, writer, version, w, f),
+        Event::Crossing(w) => enter_crossing(stretch, log, fields, w),
+    }
+}
+
+// Event n is looked at, and entered if it is not reported.
+fn step(
+    stretch: &mut [u32],
+    writer: &mut [u32],
+    version: &mut [u32],
+    log: &mut [u32],
+    workers: u32,
+    fields: u32,
+    n: u32,
+    e: Event,
+) -> Verdict
+    requires { ⌜ Room fields e (now stretch) (now writer) (now version) (now log) ⌝ }
+    ensures { λ r. ⌜ Stepped workers fields n (actsOf e) (verdictOf r) (now (stretch .entry)) (now (writer .entry)) (now (version .entry)) (now (log .entry)) (now (stretch .exit)) (now (writer .exit)) (now (version .exit)) (now (log .exit)) ⌝ }
+{
+    let r = look(stretch, writer, version, log, workers, fields, n, e);
+    if let Verdict::Accepted = r {
+        enter(stretch, writer, version, log, fields, e);
+    }
+    r
+}
+
+// After the last of n events: every worker is looked at as at a crossing.
+fn end(writer: &[u32], version: &[u32], log: &[u32], workers: u32, fields: u32, n: u32) -> Verdict
+    requires { ⌜ (workers ≤ 16) × (fields ≤ 512) × (512 ≤ length (now writer)) × (512 ≤ length (now version)) × (8192 ≤ length (now log)) ⌝ }
+    ensures { λ r. ⌜ verdictOf r ≡ endBy (staleFieldBy fields (now (log .entry)) (now (version .entry)) (now (writer .entry))) n 0 workers ⌝ }
+{
+    said_of(n, first_stale(writer, version, log, workers, fields))
+}
+
+// The events in their order, on tables that show that nothing has happened yet, and then the end.
+fn run(
+    file: &[u8],
+    counts: Counts,
+    stretch: &mut [u32],
+    writer: &mut [u32],
+    version: &mut [u32],
+    log: &mut [u32],
+) -> Verdict
+    requires { ⌜ Ready (now file) counts (now stretch) (now writer) (now version) (now log) ⌝ }
+    ensures { λ r. ⌜ Ran (now (file .entry)) counts (verdictOf r) (now (stretch .entry)) (now (writer .entry)) (now (version .entry)) (now (log .entry)) (now (stretch .exit)) (now (writer .exit)) (now (version .exit)) (now (log .exit)) ⌝ }
+{
+    let workers = counts.workers;
+    let fields = counts.fields;
+    for n in 0..counts.events {
+        let e = recording::event_at(file, counts, n);
+        let r = step(stretch, writer, version, log, workers, fields, n, e);
+        if let Verdict::Reported(_, _, _, _, _) = r {
+            return r;
+        }
+    }
+    end(writer, version, log, workers, fields, counts.events)
+}
+
+// The tables before event 0: every worker is in stretch 1, and nothing has happened.
+fn clear(
+    stretch: &mut [u32],
+    writer: &mut [u32],
+    version: &mut [u32],
+    log: &mut [u32],
+    workers: u32,
+)
+    requires { ⌜ (workers ≤ 16) × Sized (now stretch) (now writer) (now version) (now log) ⌝ }
+    ensures { λ _. ⌜ Shows workers [] (now (stretch .entry)) (now (writer .entry)) (now (version .entry)) (now (log .entry)) (now (stretch .exit)) (now (writer .exit)) (now (version .exit)) (now (log .exit)) ⌝ }
+{
+    tables::fill(stretch, 16, 0);
+    tables::fill(stretch, workers as usize, 1);
+    tables::fill(writer, 512, 0);
+    tables::fill(version, 512, 0);
+    tables::fill(log, 8192, 0);
+}
+
+// The search over an accepted file, on any tables of full length.
+fn search(
+    file: &[u8],
+    counts: Counts,
+    stretch: &mut [u32],
+    writer: &mut [u32],
+    version: &mut [u32],
+    log: &mut [u32],
+) -> Verdict
+    requires { ⌜ Accepted (now file) counts × Sized (now stretch) (now writer) (now version) (now log) ⌝ }
+    ensures { λ r. ⌜ Ran (now (file .entry)) counts (verdictOf r) (now (stretch .entry)) (now (writer .entry)) (now (version .entry)) (now (log .entry)) (now (stretch .exit)) (now (writer .exit)) (now (version .exit)) (now (log .exit)) ⌝ }
+{
+    clear(stretch, writer, version, log, counts.workers);
+    run(file, counts, stretch, writer, version, log)
+}
+
+// The answer to any file and any tables. Test 11 comes first, then the file's own tests; nothing is written before all have passed.
+pub fn find(
+    file: &[u8],
+    stretch: &mut [u32],
+    writer: &mut [u32],
+    version: &mut [u32],
+    log: &mut [u32],
+) -> Answer
+    ensures { λ r. ⌜ Finds (now (file .entry)) (now (stretch .entry)) (now (writer .entry)) (now (version .entry)) (now (log .entry)) (saidBy r) (now (stretch .exit)) (now (writer .exit)) (now (version .exit)) (now (log .exit)) ⌝ }
+{
+    if stretch.len() < 16 {
+        return Answer::Refused(11, 0);
+    }
+    if writer.len() < 512 {
+        return Answer::Refused(11, 0);
+    }
+    if version.len() < 512 {
+        return Answer::Refused(11, 0);
+    }
+    if log.len() < 8192 {
+        return Answer::Refused(11, 0);
+    }
+    match recording::check(file) {
+        Checked::Refused(number, place) => Answer::Refused(number, place),
+        Checked::Fine(counts) => {
+            tables::answer_to(search(file, counts, stretch, writer, version, log))
+        }
+    }
+}
