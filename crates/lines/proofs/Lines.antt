@@ -13,9 +13,9 @@ use Rattle.sorts.specs.declared.Field.{Field}
 use Rattle.tables.specs.declared.Answer.{Answer}
 use Rattle.tables.specs.declared.Answer.the-variants.{Refused, Accepted, Reported}
 use Rattle.tables.specs.Answers.{saidBy}
-use Rattle.lines.specs.Text.{ascii, decimal, rest, line, Puts}
+use Rattle.lines.specs.Text.{ascii, decimal, rest, line, Puts, Starts}
 use Rattle.lines.specs.Lines.{traceLine, refusedLine, otherLabel, verdictLine, answerLine, reportLines}
-use Rattle.lines.proofs.Text.{then-puts, looser}
+use Rattle.lines.proofs.Text.{then-puts, looser, puts-starts}
 
 module _ (file : List ℕ) (u : ℕ) (lent : List ℕ) (at : ℕ) (out : List ℕ) (next : ℕ) where
   pub other-unknown : u ≡ 16 → Puts 2 (ascii " -") lent at out next → Puts 21 (ascii " " ++ otherLabel file u) lent at out next
@@ -78,7 +78,11 @@ module _ (file name lent : List ℕ) (at : ℕ) (o₁ : List ℕ) (n₁ : ℕ) (
 pub report-put : (file : List ℕ) (counts : Counts) (e l : Answer) (lent o₁ : List ℕ) (n₁ : ℕ) (o₂ : List ℕ) (n₂ : ℕ) (o₃ : List ℕ) (n₃ : ℕ) → length lent ≡ 512
     → Puts 69 (traceLine counts) lent 0 o₁ n₁ → Puts 111 (answerLine file (ascii "early") (saidBy e)) o₁ n₁ o₂ n₂
     → Puts 111 (answerLine file (ascii "late") (saidBy l)) o₂ n₂ o₃ n₃
-    → Puts 512 (reportLines file counts (saidBy e) (saidBy l)) lent 0 o₃ n₃
+    → Starts (reportLines file counts (saidBy e) (saidBy l)) lent o₃ n₃
 unfolding reportLines
 report-put file counts e l lent o₁ n₁ o₂ n₂ o₃ n₃ long a b c =
-    looser 512 (omega arith) (then-puts 222 a (omega arith) (λ r. then-puts 111 b r (λ _. c)))
+    puts-starts (omega arith) (then-puts 222 a (omega arith) (λ r. then-puts 111 b r (λ _. c)))
+
+pub refused-only : (number place : ℕ) (lent out : List ℕ) (n : ℕ) → length lent ≡ 512 → Puts 50 (refusedLine number place) lent 0 out n
+    → Starts (refusedLine number place) lent out n
+refused-only number place lent out n long p = puts-starts (omega arith) p

@@ -1,5 +1,5 @@
 -- Laws of text put into a buffer, and of decimal numbers.
-use mathlib.Core.Path.{_≡_, refl, _∙_}
+use mathlib.Core.Path.{_≡_, refl, sym, _∙_}
 use mathlib.Core.Bool.{Bool, true, false}
 use mathlib.Core.List.{List, [], _∷_, _++_, append-assoc}
 use Prim.Native.Nat.{ℕ, zero, suc, _+_, _-_, _/_, _%_, _^_, _<_, _≤_}
@@ -7,11 +7,11 @@ use native.Mathlib.Nat.{mod-eq-of-lt, mod-lt, one-le-pow, pow-suc, pow-le-pow-ri
 use native.Mathlib.Numerals.{add-one}
 use native.Mathlib.Omega.{arith}
 use lib.Dec.{leb}
-use lib.ListN.{length, getD, set, take, drop, length-append, length-drop}
-use lib.Seq.{paste, paste-zero, paste-suc, length-take-le, take-at, drop-append-add, drop-drop, take-all}
+use lib.ListN.{length, getD, set, take, drop, length-append, length-drop, take-append-drop}
+use lib.Seq.{paste, paste-zero, paste-suc, length-take-le, take-at, drop-at, drop-append-add, drop-drop, take-all}
 use borrow.Author.Tests.{lt-ltb, le-ltb, leb-true, leb-false}
 use Rattle.io.specs.Digits.{digits, Fewest}
-use Rattle.lines.specs.Text.{ascii, spelled, decimal, put, Puts}
+use Rattle.lines.specs.Text.{ascii, spelled, decimal, put, Puts, Starts}
 
 -- the first i bytes of a text copied into a buffer
 unfoldable pub copied : List ℕ → ℕ → List ℕ → ℕ → List ℕ
@@ -116,3 +116,24 @@ pub number-put : (n k : ℕ) (lent : List ℕ) (at : ℕ) (out : List ℕ) (next
 number-put n k lent at out next text out′ next′ room l f c t p q =
     let few = few-digits k n l f in
     then-puts 20 p room (λ _. rw (t, digits-decimal k n f) at (looser 20 (omega arith) q))
+
+-- text at the start of a buffer
+pub puts-starts : {m : ℕ} {text lent out : List ℕ} {n : ℕ} → m ≤ length lent → Puts m text lent 0 out n → Starts text lent out n
+unfolding put
+puts-starts {m} {text} {lent} {out} {n} room p =
+    let whole : n ≡ length text = omega (arith, p .past) in
+    let says : take n out ≡ text = rw (p .bytes) (take-at text (drop (0 + length text) lent) n (omega arith)) in
+    record {
+      within = rw (p .bytes) (rw (length-put lent 0 text (omega (arith, p .short))) (omega (arith, p .short)));
+      count = rw says whole;
+      says = says;
+      others = rw (p .bytes, p .past) (drop-at text (drop (0 + length text) lent) (0 + length text) (omega arith));
+    }
+
+-- the statement leaves one outcome
+pub starts-unique : (text lent out out′ : List ℕ) (n n′ : ℕ) → Starts text lent out n → Starts text lent out′ n′ → (out ≡ out′) × (n ≡ n′)
+starts-unique text lent out out′ n n′ p q =
+    let same : n ≡ n′ = p .count ∙ rw (p .says, ← q .says) (sym (q .count)) in
+    let whole : out ≡ text ++ drop n lent = sym (take-append-drop n out) ∙ rw (p .says, p .others) in
+    let whole′ : out′ ≡ text ++ drop n′ lent = sym (take-append-drop n′ out′) ∙ rw (q .says, q .others) in
+    (whole ∙ rw same (sym whole′), same)

@@ -43,3 +43,10 @@ pub record Puts (most : ℕ) (text lent : List ℕ) (at : ℕ) (out : List ℕ) 
   pub bytes : out ≡ put lent at text
   pub past : next ≡ at + length text
   pub short : length text ≤ most
+
+-- The first n bytes of the buffer are the text, and all its other bytes are as they were lent.
+pub record Starts (text lent out : List ℕ) (n : ℕ) : Type 0 where
+  pub within : n ≤ length out
+  pub count : n ≡ length (take n out)
+  pub says : take n out ≡ text
+  pub others : drop n out ≡ drop n lent

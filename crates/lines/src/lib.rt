@@ -5,7 +5,7 @@ ghost use lib.ListN.{length};
 ghost use Rattle.recording.specs.File.{workerLabel, fieldLabel};
 ghost use Rattle.events.specs.Verdicts.{reported};
 ghost use Rattle.tables.specs.Answers.{saidBy};
-ghost use Rattle.lines.specs.Text.{ascii, decimal, rest, Puts};
+ghost use Rattle.lines.specs.Text.{ascii, decimal, rest, Puts, Starts};
 ghost use Rattle.lines.specs.Lines.{traceLine, refusedLine, otherLabel, verdictLine, answerLine, reportLines};
 use recording::Counts;
 use sorts::Field;
@@ -116,7 +116,7 @@ fn answer_line(out: &mut [u8], at: usize, file: &[u8], name: &[u8], answer: Answ
 
 // The one line of a refused file.
 pub fn refused(out: &mut [u8; SIZE], no: u32, place: usize) -> usize
-    ensures { λ r. ⌜ Puts 512 (refusedLine no place) (now (out .entry)) 0 (now (out .exit)) r ⌝ }
+    ensures { λ r. ⌜ Starts (refusedLine no place) (now (out .entry)) (now (out .exit)) r ⌝ }
 {
     refused_line(out, 0, no, place)
 }
@@ -129,7 +129,7 @@ pub fn report(
     early: Answer,
     late: Answer,
 ) -> usize
-    ensures { λ r. ⌜ Puts 512 (reportLines (now (file .entry)) counts (saidBy early) (saidBy late)) (now (out .entry)) 0 (now (out .exit)) r ⌝ }
+    ensures { λ r. ⌜ Starts (reportLines (now (file .entry)) counts (saidBy early) (saidBy late)) (now (out .entry)) (now (out .exit)) r ⌝ }
 {
     let trace_end = trace_line(out, 0, counts);
     let early_end = answer_line(out, trace_end, file, b"early", early);
