@@ -23,7 +23,7 @@ use Rattle.lines.specs.Text.{Starts}
 use Rattle.lines.specs.Lines.{refusedLine, reportLines, printedAfter, printed}
 use Rattle.bankmurmur.specs.declared.Input.{Input}
 use Rattle.bankmurmur.specs.declared.Input.the-variants.{Bytes}
-use Rattle.bankmurmur.specs.Program.{Holds, ReadInto}
+use Rattle.bankmurmur.specs.Program.{ReadInto}
 
 module _ (file lent out : List ℕ) (n : ℕ) (r : Checked) (is : r ≡ checked file) where
   pub refused-printed : (number place : ℕ) → r ≡ Checked-refused number place → Starts (refusedLine number place) lent out n → Starts (printed file) lent out n
@@ -51,12 +51,12 @@ whole-printed file = by (refusal true file) refl
         rw (take-all 65536 file (omega (arith, good .size, good .few-workers, good .few-fields, good .few-events)))
 
 -- bytes at the start of a buffer
-pub holds : (buffer : List ℕ) (n : ℕ) → n ≤ length buffer → Holds buffer n
-holds buffer n l = record { within = l; count = sym (length-take-le n buffer l) }
+pub counted : (buffer : List ℕ) (n : ℕ) → n ≤ length buffer → (n ≤ length buffer) × (n ≡ length (take n buffer))
+counted buffer n l = (l, sym (length-take-le n buffer l))
 
 module _ (buffer : List ℕ) (r : Input) (n : ℕ) (q : r ≡ Bytes n) (h : ReadInto buffer r) where
   pub read-within : n ≤ length buffer
-  read-within = (rw q at h) .within
+  read-within = (rw q at h) .0
 
   pub read-count : n ≡ length (take n buffer)
-  read-count = (rw q at h) .count
+  read-count = (rw q at h) .1

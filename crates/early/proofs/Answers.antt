@@ -2,8 +2,7 @@
 use mathlib.Core.Path.{_≡_, refl, sym, _∙_}
 use mathlib.Core.Bool.{Bool, true, false, _&&_, and-false}
 use mathlib.Core.List.{List, []}
-use Prim.Native.Nat.{ℕ, _/_, _%_, _<_, _≤_}
-use native.Mathlib.Omega.{arith}
+use Prim.Native.Nat.{ℕ, _<_, _≤_}
 use lib.Dec.{leb}
 use lib.ListN.{length}
 use borrow.Author.Tests.{le-leb, lt-leb}
@@ -18,28 +17,18 @@ use Rattle.recording.specs.File.{refusal, checked, Accepted}
 use Rattle.recording.proofs.Guarantee.{guarantee}
 use Rattle.recording.proofs.Acceptance.{fine-accepted, refused-refusal, short-table}
 use Rattle.tables.specs.declared.Answer.{Answer}
-use Rattle.tables.specs.Lent.{filled, cells}
+use Rattle.tables.specs.Lent.{cells}
 use Rattle.tables.specs.Answers.{refused, judged, saidBy}
 use Rattle.tables.specs.Finds.{shownBy}
-use Rattle.tables.proofs.Lent.{length-filled, shown-is, shown-since, shown-itself}
-use Rattle.tables.proofs.Shown.{stretch-at-start, zero-at-start}
+use Rattle.tables.proofs.Lent.{shown-is, shown-since, shown-itself}
 use Rattle.early.specs.Finds.{fullTables, fault, Finds}
 use Rattle.early.specs.Steps.{Sized}
 use Rattle.early.specs.Runs.{Shows, Ready, Ran}
 
--- the tables cleared: a 1 for each worker, and 0 elsewhere
-module _ (file : List ℕ) (counts : Counts) (S Wr Rd S₁ S₂ Wr₂ Rd₂ : List ℕ) (accepted : Accepted file counts) (sized : Sized S Wr Rd)
-    (f₁ : S₁ ≡ filled 16 0 S) (f₂ : S₂ ≡ filled (counts .workers) 1 S₁) (f₃ : Wr₂ ≡ filled 512 0 Wr) (f₄ : Rd₂ ≡ filled 8192 0 Rd) where
-  cleared : Shows (counts .workers) [] S Wr Rd S₂ Wr₂ Rd₂
-  unfolding writerWord readersWord
-  cleared = record {
-    stretch = stretch-at-start (counts .workers) S S₁ S₂ (guarantee file counts accepted .few-workers) (sized .stretch) f₁ f₂;
-    writer = zero-at-start 512 (writerWord []) Wr Wr₂ (sized .writer) f₃ (λ f. refl);
-    readers = zero-at-start 8192 (cells (readersWord [])) Rd Rd₂ (sized .readers) f₄ (λ i. refl);
-  }
-
-  pub cleared-ready : Ready file counts S₂ Wr₂ Rd₂
-  cleared-ready = record {
+-- the tables cleared
+module _ (file : List ℕ) (counts : Counts) (S Wr Rd S₂ Wr₂ Rd₂ : List ℕ) (cleared : Shows (counts .workers) [] S Wr Rd S₂ Wr₂ Rd₂) where
+  pub cleared-ready : Accepted file counts → Ready file counts S₂ Wr₂ Rd₂
+  cleared-ready accepted = record {
     checked = accepted;
     empty = record {
       stretch = shown-itself 16 (stretchWord (counts .workers) []) S S₂ (cleared .stretch);
@@ -59,9 +48,8 @@ module _ (file : List ℕ) (counts : Counts) (S Wr Rd S₁ S₂ Wr₂ Rd₂ : Li
   }
 
 -- all workers have a word
-pub workers-fit : (file : List ℕ) (counts : Counts) (S Wr Rd S₁ : List ℕ) → Accepted file counts → Sized S Wr Rd → S₁ ≡ filled 16 0 S → counts .workers ≤ length S₁
-workers-fit file counts S Wr Rd S₁ accepted sized q =
-    rw (q, length-filled 0 S 16 (sized .stretch)) (omega (arith, guarantee file counts accepted .few-workers, sized .stretch))
+pub accepted-few : (file : List ℕ) (counts : Counts) → Accepted file counts → counts .workers ≤ 16
+accepted-few file counts accepted = guarantee file counts accepted .few-workers
 
 module _ (file S Wr Rd : List ℕ) where
   refused-as : (number place : ℕ) → fault file S Wr Rd ≡ Refused number place → Finds file S Wr Rd (refused number place) S Wr Rd

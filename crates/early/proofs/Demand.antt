@@ -1,4 +1,4 @@
--- The early finder's statement determines everything, and demand 2 said of the finder itself.
+-- Demand 2 said of the early finder itself.
 use mathlib.Core.Path.{_≡_, refl, sym, _∙_, ap}
 use mathlib.Core.Bool.{true}
 use mathlib.Core.List.{List, []}
@@ -20,20 +20,6 @@ use Rattle.tables.proofs.Laws.{judged-same}
 use Rattle.early.specs.Finds.{fullTables, fault, Finds}
 
 module _ (file S₀ Wr₀ Rd₀ : List ℕ) where
-  -- Any two outcomes that the statement allows coincide.
-  module _ (a a′ : Said) (S Wr Rd S′ Wr′ Rd′ : List ℕ) (x : Finds file S₀ Wr₀ Rd₀ a S Wr Rd) (y : Finds file S₀ Wr₀ Rd₀ a′ S′ Wr′ Rd′) where
-    pub one-answer : a ≡ a′
-    one-answer = x .answers ∙ sym (y .answers)
-
-    pub one-stretch : S ≡ S′
-    one-stretch = x .stretch ∙ sym (y .stretch)
-
-    pub one-writer : Wr ≡ Wr′
-    one-writer = x .writer ∙ sym (y .writer)
-
-    pub one-readers : Rd ≡ Rd′
-    one-readers = x .readers ∙ sym (y .readers)
-
   -- DEMAND 2, of a well-formed file lent with tables of at least full length.
   module _ (good : WellFormed file) (full : fullTables S₀ Wr₀ Rd₀ ≡ true) (a : Said) (S Wr Rd : List ℕ) (finds : Finds file S₀ Wr₀ Rd₀ a S Wr Rd) where
     -- the acts of each event of the recording in the file

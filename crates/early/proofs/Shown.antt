@@ -19,13 +19,23 @@ use Rattle.events.proofs.Search.{lowest-ext}
 use Rattle.events.proofs.Histories.{ActWithin, ActsWithin, No}
 use Rattle.events.proofs.Stretches.{unused-read}
 use Rattle.events.proofs.Words.{has-read}
-use Rattle.tables.specs.Lent.{Shown, cells}
+use Rattle.tables.specs.Lent.{Shown, cells, filled}
 use Rattle.tables.specs.Steps.{isOpen, writerBy, stretchWith, writerWith, stretchAfter, writerAfter}
 use Rattle.tables.proofs.Lent.{shown-set, shown-cell, eqb-cell}
 use Rattle.tables.proofs.Laws.{open-over}
-use Rattle.tables.proofs.Shown.{shown-stretch, shown-open, stretch-with, writer-with, writer-shown}
-use Rattle.early.specs.Steps.{readerOpen, readerBy, readersWith, readersAfter}
+use Rattle.tables.proofs.Shown.{shown-stretch, shown-open, stretch-with, writer-with, writer-shown, stretch-at-start, zero-at-start}
+use Rattle.early.specs.Steps.{readerOpen, readerBy, readersWith, readersAfter, Sized}
 use Rattle.early.specs.Runs.{Shows}
+
+-- the tables before event 0
+pub shows-start : (W : ℕ) (S₀ Wr₀ Rd₀ S₁ S Wr Rd : List ℕ) → W ≤ 16 → Sized S₀ Wr₀ Rd₀ → S₁ ≡ filled 16 0 S₀ → S ≡ filled W 1 S₁
+    → Wr ≡ filled 512 0 Wr₀ → Rd ≡ filled 8192 0 Rd₀ → Shows W [] S₀ Wr₀ Rd₀ S Wr Rd
+unfolding writerWord readersWord
+shows-start W S₀ Wr₀ Rd₀ S₁ S Wr Rd few sized a b c d = record {
+  stretch = stretch-at-start W S₀ S₁ S few (sized .stretch) a b;
+  writer = zero-at-start 512 (writerWord []) Wr₀ Wr (sized .writer) c (λ f. refl);
+  readers = zero-at-start 8192 (cells (readersWord [])) Rd₀ Rd (sized .readers) d (λ i. refl);
+}
 
 module _ (W : ℕ) (few : W ≤ 16) (S₀ Wr₀ Rd₀ : List ℕ) where
   module _ (h : History) (inside : ActsWithin W 512 h) (S Wr Rd : List ℕ) (shows : Shows W h S₀ Wr₀ Rd₀ S Wr Rd) where

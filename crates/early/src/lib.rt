@@ -1,12 +1,13 @@
 // The early finder (FastRCD): at each access it looks whether another worker's open stretch has touched the field.
 ghost use mathlib.Core.Path.{_≡_};
 ghost use Prim.Native.Nat.{_+_, _*_, _<_, _≤_};
+ghost use mathlib.Core.List.{[]};
 ghost use lib.ListN.{length, getD, set};
 ghost use Rattle.events.specs.Acts.{EventWithin};
 ghost use Rattle.recording.specs.File.{Accepted};
 ghost use Rattle.tables.specs.Answers.{foundOf, verdictOf, saidBy};
 ghost use Rattle.early.specs.Steps.{readerOpen, readerBy, meets, Sized, Room, Entered, Stepped};
-ghost use Rattle.early.specs.Runs.{Ready, Ran};
+ghost use Rattle.early.specs.Runs.{Shows, Ready, Ran};
 ghost use Rattle.early.specs.Finds.{Finds};
 use events::Event;
 use recording::Checked;
@@ -134,7 +135,18 @@ fn run(
     Verdict::Accepted
 }
 
-// The search over an accepted file: the tables are cleared first.
+// The tables before event 0: every worker is in stretch 1, and nothing has happened.
+fn clear(stretch: &mut [u32], writer: &mut [u32], readers: &mut [u32], workers: u32)
+    requires { ⌜ (workers ≤ 16) × Sized (now stretch) (now writer) (now readers) ⌝ }
+    ensures { λ _. ⌜ Shows workers [] (now (stretch .entry)) (now (writer .entry)) (now (readers .entry)) (now (stretch .exit)) (now (writer .exit)) (now (readers .exit)) ⌝ }
+{
+    tables::fill(stretch, 16, 0);
+    tables::fill(stretch, workers as usize, 1);
+    tables::fill(writer, 512, 0);
+    tables::fill(readers, 8192, 0);
+}
+
+// The search over an accepted file, on any tables of full length.
 fn search(
     file: &[u8],
     counts: Counts,
@@ -145,10 +157,7 @@ fn search(
     requires { ⌜ Accepted (now file) counts × Sized (now stretch) (now writer) (now readers) ⌝ }
     ensures { λ r. ⌜ Ran (now (file .entry)) counts (verdictOf r) (now (stretch .entry)) (now (writer .entry)) (now (readers .entry)) (now (stretch .exit)) (now (writer .exit)) (now (readers .exit)) ⌝ }
 {
-    tables::fill(stretch, 16, 0);
-    tables::fill(stretch, counts.workers as usize, 1);
-    tables::fill(writer, 512, 0);
-    tables::fill(readers, 8192, 0);
+    clear(stretch, writer, readers, counts.workers);
     run(file, counts, stretch, writer, readers)
 }
 

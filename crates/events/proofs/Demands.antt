@@ -11,13 +11,13 @@ use Rattle.events.specs.Stretches.{hasRead, hasWritten}
 use Rattle.events.specs.Positions.{OpenSince}
 use Rattle.events.specs.Clashes.{Clash, OnWritten, Some, SomeAt, FirstClash}
 use Rattle.events.specs.Verdicts.{Verdict, accepted, reported, earlyVerdict, lateVerdict}
-use Rattle.events.specs.Reports.{EventNames, Reports, ReportsSome, ReportsBy, Exactly}
+use Rattle.events.specs.Reports.{EventNames, Reports, ReportsSome, ReportsBy, Exactly, Writes, Crosses}
 use Rattle.events.proofs.Histories.{Sound, recording-sound, recording-length}
 use Rattle.events.proofs.Stretches.{own-clash, crossing-calm}
 use Rattle.events.proofs.Positions.{positions, read-follows, written-follows}
 use Rattle.events.proofs.Walks.{not-both}
 use Rattle.events.proofs.Early.{Finds, accepts, finds, found-early, says-first, one-first}
-use Rattle.events.proofs.Late.{Crosses, Writes, late-accepts, LateReports, late-reports, stops-at, stops-by}
+use Rattle.events.proofs.Late.{late-accepts, LateReports, late-reports, stops-at, stops-by}
 
 -- w's open stretch has read (written) f at n exactly if some event before n is w's read (write) of f with no crossing of w from there
 -- up to n.

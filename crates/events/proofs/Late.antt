@@ -13,7 +13,7 @@ use Rattle.events.specs.Stretches.{hasRead, hasWritten, staleRead}
 use Rattle.events.specs.Clashes.{Clash, write-after-write, write-after-read, read-after-write, OnWritten, write-on-written, read-on-written, Some, here, later, SomeAt, FirstClash}
 use Rattle.events.specs.Search.{Found, lowest, at, none}
 use Rattle.events.specs.Verdicts.{Verdict, accepted, reported, firstOf, walk, otherWriter, staleField, staleBy, endBy, lateLook, late}
-use Rattle.events.specs.Reports.{LowestOther, Reports}
+use Rattle.events.specs.Reports.{LowestOther, Reports, Writes, Crosses}
 use Rattle.events.proofs.Tests.{bool, same, T-of, of-T}
 use Rattle.events.proofs.Search.{found, lowest-at, lowest-none, none-pass}
 use Rattle.events.proofs.Histories.{ActWithin, ActsWithin, ActsOf, Sound, event-sound, before-next, before-within, No, calm-before}
@@ -38,12 +38,6 @@ calm-fresh (writes u g ∷ h) c w f =
 calm-fresh (crosses u ∷ h) c w f = rw (calm-fresh h (c .1) w f, and-false)
 
 -- it stays until its worker crosses
-abbrev pub Crosses : ℕ → Act → Type 0
-Crosses u a = a ≡ crosses u
-
-abbrev pub Writes : ℕ → ℕ → Act → Type 0
-Writes w f a = a ≡ writes w f
-
 stale-kept : (h : History) (a : Act) (u f : ℕ) → (Crosses u a → ⊥) → staleRead h u f ≡ true → staleRead (a ∷ h) u f ≡ true
 unfolding staleRead
 stale-kept h (reads v g) u f z s = s

@@ -1,4 +1,5 @@
--- Laws of the late finder's words: of each way through the code, of a column cleared, and of tables that show a history.
+-- Laws of the late finder's steps, and why its tables show the recording.
+pub mod Determined
 pub mod Laws
 pub mod Columns
 pub mod Shown

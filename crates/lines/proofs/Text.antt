@@ -124,8 +124,7 @@ puts-starts {m} {text} {lent} {out} {n} room p =
     let whole : n ≡ length text = omega (arith, p .past) in
     let says : take n out ≡ text = rw (p .bytes) (take-at text (drop (0 + length text) lent) n (omega arith)) in
     record {
-      within = rw (p .bytes) (rw (length-put lent 0 text (omega (arith, p .short))) (omega (arith, p .short)));
-      count = rw says whole;
+      counts = (rw (p .bytes) (rw (length-put lent 0 text (omega (arith, p .short))) (omega (arith, p .short))), rw says whole);
       says = says;
       others = rw (p .bytes, p .past) (drop-at text (drop (0 + length text) lent) (0 + length text) (omega arith));
     }
@@ -133,7 +132,7 @@ puts-starts {m} {text} {lent} {out} {n} room p =
 -- the statement leaves one outcome
 pub starts-unique : (text lent out out′ : List ℕ) (n n′ : ℕ) → Starts text lent out n → Starts text lent out′ n′ → (out ≡ out′) × (n ≡ n′)
 starts-unique text lent out out′ n n′ p q =
-    let same : n ≡ n′ = p .count ∙ rw (p .says, ← q .says) (sym (q .count)) in
+    let same : n ≡ n′ = p .counts .1 ∙ rw (p .says, ← q .says) (sym (q .counts .1)) in
     let whole : out ≡ text ++ drop n lent = sym (take-append-drop n out) ∙ rw (p .says, p .others) in
     let whole′ : out′ ≡ text ++ drop n′ lent = sym (take-append-drop n′ out′) ∙ rw (q .says, q .others) in
     (whole ∙ rw same (sym whole′), same)

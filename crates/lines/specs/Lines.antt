@@ -39,6 +39,7 @@ answerLine file name (judged v) = verdictLine file name v
 unfoldable pub reportLines : List ℕ → Counts → Said → Said → List ℕ
 reportLines file counts e l = traceLine counts ++ (answerLine file (ascii "early") e ++ answerLine file (ascii "late") l)
 
+-- the one line of a refused file, or the three lines of any other
 unfoldable pub printedAfter : Fault → List ℕ → List ℕ
 printedAfter (Refused number place) file = refusedLine number place
 printedAfter Fine file =

@@ -7,6 +7,7 @@ use Prim.Native.Char.{code}
 use Prim.Native.String.{String, [] as none, _∷_ as _before_}
 use lib.Dec.{ltb}
 use lib.ListN.{length, take, drop}
+use Rattle.io.specs.Counts.{Counts}
 
 -- a text's characters, by their numbers
 abbrev pub ascii : String → List ℕ
@@ -14,7 +15,7 @@ ascii none = []
 ascii (c before more) = code c ∷ ascii more
 
 abbrev pub digit : ℕ → ℕ
-digit d = 48 + d
+digit d = code "0" + d
 
 -- A number below 10 is its digit; any other is its tenth and then its last digit. The first argument bounds the steps: n or more are enough for n.
 unfoldable pub spelled : ℕ → ℕ → List ℕ
@@ -46,7 +47,6 @@ pub record Puts (most : ℕ) (text lent : List ℕ) (at : ℕ) (out : List ℕ) 
 
 -- The first n bytes of the buffer are the text, and all its other bytes are as they were lent.
 pub record Starts (text lent out : List ℕ) (n : ℕ) : Type 0 where
-  pub within : n ≤ length out
-  pub count : n ≡ length (take n out)
+  pub counts : Counts n out
   pub says : take n out ≡ text
   pub others : drop n out ≡ drop n lent

@@ -1,12 +1,12 @@
 -- What each way through the functions answers.
-use mathlib.Core.Path.{_≡_, refl, sym, _∙_, ap}
-use mathlib.Core.Bool.{Bool, true, false, cond, _&&_, _||_, and-false}
+use mathlib.Core.Path.{_≡_, refl, sym, _∙_}
+use mathlib.Core.Bool.{Bool, true, false, not, and-false}
 use mathlib.Core.List.{List}
-use Prim.Native.Nat.{ℕ, zero, suc, _+_, _*_, _-_, _<_, _≤_}
+use Prim.Native.Nat.{ℕ, suc, _+_, _*_, _-_, _<_, _≤_}
 use native.Mathlib.Omega.{arith}
 use lib.Dec.{eqb, ltb, leb}
 use lib.ListN.{length, getD, List·getD-eq-default}
-use borrow.Author.Tests.{lt-ltb, le-ltb, le-leb, lt-leb, eq-eqb, ne-eqb}
+use borrow.Author.Tests.{lt-ltb, le-ltb, le-leb, lt-leb, ne-eqb}
 use Rattle.events.specs.declared.Event.{Event}
 use Rattle.events.specs.declared.Event.the-variants.{Read, Write, Crossing}
 use Rattle.recording.proofs.Guarantee.{guarantee}
@@ -19,8 +19,10 @@ use Rattle.recording.specs.declared.Checked.{Checked}
 use Rattle.recording.specs.declared.Checked.the-variants.{Refused as Checked-refused, Fine as Checked-fine}
 use Rattle.recording.specs.declared.Counted.{Counted}
 use Rattle.recording.specs.declared.Counted.the-variants.{Refused as Counted-refused, Count}
-use Rattle.recording.specs.Tests.{need, _then_, rising, kindAllowed, fieldAllowed, eventPlace, eventTests, eventsTests, section, labelSection, eventSection, endTest, eventsToEnd, eventsAt, fileSize, fileTests, allTests}
-use Rattle.recording.specs.File.{numberAt, labelAt, entryAt, entriesAt, workerCount, fieldCount, eventCount, workerLabel, fieldLabel, entryIn, contentsIn, refusal, labelsAnswer, eventsAnswer, toEndAnswer, checked, eventOf, eventAt, Accepted}
+use Rattle.recording.specs.declared.Step.the-variants.{Next, End}
+use Rattle.recording.specs.Tests.{need, _then_, rising, kindAllowed, fieldAllowed, eventPlace, eventTests, eventsTests, section, labelSection, eventSection, endTest, eventsToEnd, eventsAt, fileTests, allTests}
+use Rattle.recording.specs.File.{numberAt, labelAt, entryAt, entriesAt, workerCount, fieldCount, eventCount, workerLabel, fieldLabel, entryIn, contentsIn, refusal, checked, eventOf, eventAt, Accepted, stepAt}
+use Rattle.recording.specs.Parts.{labelsAnswer, eventsAnswer, toEndAnswer}
 
 pub number-is : (s : List ℕ) (i low high r : ℕ) → low ≡ getD s i 0 → high ≡ getD s (i + 1) 0 → r ≡ low + 256 * high → r ≡ numberAt s i
 unfolding numberAt
@@ -58,45 +60,55 @@ pub entry-is : (s : List ℕ) (i kind worker field : ℕ) → kind ≡ getD s i 
 unfolding entryAt
 entry-is s i kind worker field p q r = rw (p, q, r)
 
-kind-known : (kind : ℕ) → (kind ≡ 0 → ⊥) → kind ≤ 3 → kindAllowed kind ≡ true
-unfolding kindAllowed
-kind-known zero z l = absurd (z refl)
-kind-known (suc zero) z l = refl
-kind-known (suc (suc zero)) z l = refl
-kind-known (suc (suc (suc zero))) z l = refl
-kind-known (suc (suc (suc (suc kind)))) z l = absurd (omega arith)
+module _ (kind : ℕ) where
+  pub kind-read : kind ≡ 1 → true ≡ kindAllowed kind
+  unfolding kindAllowed
+  kind-read q = rw q
+
+  pub kind-write : kind ≡ 2 → true ≡ kindAllowed kind
+  unfolding kindAllowed
+  kind-write q = rw q
+
+  pub kind-other : (kind ≡ 1 → ⊥) → (kind ≡ 2 → ⊥) → eqb kind 3 ≡ kindAllowed kind
+  unfolding kindAllowed
+  kind-other a b = rw (ne-eqb kind 1 a, ne-eqb kind 2 b)
+
+  module _ (F field : ℕ) where
+    pub field-crossing : kind ≡ 3 → eqb field 0 ≡ fieldAllowed F kind field
+    unfolding fieldAllowed
+    field-crossing q = rw q
+
+    pub field-access : (kind ≡ 3 → ⊥) → ltb field F ≡ fieldAllowed F kind field
+    unfolding fieldAllowed
+    field-access q = rw (ne-eqb kind 3 q)
+
+not-true : (b : Bool) → not b ≡ true → b ≡ false
+not-true true e = let z : _≡_ {A = ℕ} 0 1 = cc in absurd (omega arith)
+not-true false e = refl
+
+not-false : (b : Bool) → not b ≡ false → b ≡ true
+not-false true e = refl
+not-false false e = let z : _≡_ {A = ℕ} 0 1 = cc in absurd (omega arith)
 
 -- an event that starts at start, test by test
-module _ (W F start : ℕ) (e : Entry) where
-  pub kind-zero : e .kind ≡ 0 → Refused 7 start ≡ eventTests W F e start
-  unfolding eventTests kindAllowed eventPlace _then_ need
-  kind-zero z = rw z
+module _ (W F start : ℕ) (e : Entry) (k : Bool) (q : k ≡ kindAllowed (e .kind)) where
+  pub kind-refused : not k ≡ true → Refused 7 start ≡ eventTests W F e start
+  unfolding eventTests eventPlace _then_ need
+  kind-refused a = rw (← q, not-true k a)
 
-  pub kind-over : 3 < e .kind → Refused 7 start ≡ eventTests W F e start
-  unfolding eventTests kindAllowed eventPlace _then_ need
-  kind-over l = rw (ne-eqb (e .kind) 1 (λ q. omega arith), ne-eqb (e .kind) 2 (λ q. omega arith), ne-eqb (e .kind) 3 (λ q. omega arith))
-
-  module _ (z : e .kind ≡ 0 → ⊥) (l : e .kind ≤ 3) where
-    pub worker-over : W ≤ e .worker → Refused 8 start ≡ eventTests W F e start
+  module _ (a : not k ≡ false) where
+    pub worker-refused : W ≤ e .worker → Refused 8 start ≡ eventTests W F e start
     unfolding eventTests eventPlace _then_ need
-    worker-over a = rw (kind-known (e .kind) z l, le-ltb (e .worker) W a)
+    worker-refused l = rw (← q, not-false k a, le-ltb (e .worker) W l)
 
-    module _ (a : e .worker < W) where
-      pub crossing-fine : e .kind ≡ 3 → e .field ≡ 0 → Fine ≡ eventTests W F e start
-      unfolding eventTests fieldAllowed _then_ need
-      crossing-fine k f = rw (kind-known (e .kind) z l, lt-ltb (e .worker) W a, k, f)
+    module _ (l : e .worker < W) (f : Bool) (p : f ≡ fieldAllowed F (e .kind) (e .field)) where
+      pub field-refused : not f ≡ true → Refused 9 start ≡ eventTests W F e start
+      unfolding eventTests eventPlace _then_ need
+      field-refused b = rw (← q, not-false k a, lt-ltb (e .worker) W l, ← p, not-true f b)
 
-      pub crossing-field : e .kind ≡ 3 → (e .field ≡ 0 → ⊥) → Refused 9 start ≡ eventTests W F e start
-      unfolding eventTests eventPlace fieldAllowed _then_ need
-      crossing-field k f = rw (kind-known (e .kind) z l, lt-ltb (e .worker) W a, k, ne-eqb (e .field) 0 f)
-
-      pub access-fine : (e .kind ≡ 3 → ⊥) → e .field < F → Fine ≡ eventTests W F e start
-      unfolding eventTests fieldAllowed _then_ need
-      access-fine k f = rw (kind-known (e .kind) z l, lt-ltb (e .worker) W a, ne-eqb (e .kind) 3 k, lt-ltb (e .field) F f)
-
-      pub access-field : (e .kind ≡ 3 → ⊥) → F ≤ e .field → Refused 9 start ≡ eventTests W F e start
-      unfolding eventTests eventPlace fieldAllowed _then_ need
-      access-field k f = rw (kind-known (e .kind) z l, lt-ltb (e .worker) W a, ne-eqb (e .kind) 3 k, le-ltb (e .field) F f)
+      pub event-fine : not f ≡ false → Fine ≡ eventTests W F e start
+      unfolding eventTests _then_ need
+      event-fine b = rw (← q, not-false k a, lt-ltb (e .worker) W l, ← p, not-false f b)
 
 -- events looked at before event n, count - n of them to come, which answer x
 module _ (s : List ℕ) (at W F count n : ℕ) (x : Fault) (inv : eventsTests W F (entriesAt s at) at n (count - n) ≡ x) where
@@ -227,8 +239,16 @@ module _ (s : List ℕ) (at limit range order : ℕ) (r : Counted) (q : r ≡ la
     section-room : at + 2 + 2 * m ≤ length s
     section-room = rw (section-is-fine .1) at (section-labels .room)
 
-    section-few : m ≤ limit
+    pub section-few : m ≤ limit
     section-few = rw (section-is-fine .1) at (section-labels .few)
+
+-- where the next section starts, whatever the limit and the numbers: after the workers, and after the fields
+module _ (s : List ℕ) (limit range order : ℕ) (r : Counted) (W : ℕ) where
+  pub workers-room : r ≡ labelsAnswer s 0 limit range order → r ≡ Count W → 2 + 2 * W ≤ length s
+  workers-room q k = section-room s 0 limit range order r q W k
+
+  pub fields-room : (F : ℕ) → r ≡ labelsAnswer s (2 + 2 * W) limit range order → r ≡ Count F → 4 + 2 * W + 2 * F ≤ length s
+  fields-room F q k = let z = section-room s (2 + 2 * W) limit range order r q F k in omega arith
 
 -- the whole file: the workers answer r, and where they are fine the fields answer r′
 module _ (s : List ℕ) (r : Counted) (q : r ≡ labelsAnswer s 0 16 2 3) where
@@ -237,12 +257,6 @@ module _ (s : List ℕ) (r : Counted) (q : r ≡ labelsAnswer s 0 16 2 3) where
   workers-refused number place k = rw (section-is-refused s 0 16 2 3 r q number place k)
 
   module _ (W : ℕ) (k : r ≡ Count W) where
-    pub workers-room : 2 + 2 * W ≤ length s
-    workers-room = section-room s 0 16 2 3 r q W k
-
-    pub workers-few : W ≤ 16
-    workers-few = section-few s 0 16 2 3 r q W k
-
     module _ (r′ : Counted) (q′ : r′ ≡ labelsAnswer s (2 + 2 * W) 512 4 5) where
       pub fields-refused : (number place : ℕ) → r′ ≡ Counted-refused number place → Checked-refused number place ≡ checked s
       unfolding checked refusal allTests fileTests contentsIn workerCount workerLabel fieldCount fieldLabel _then_ need
@@ -251,12 +265,6 @@ module _ (s : List ℕ) (r : Counted) (q : r ≡ labelsAnswer s 0 16 2 3) where
           rw (a .0, a .1, section-is-refused s (2 + 2 * W) 512 4 5 r′ q′ number place k′)
 
       module _ (F : ℕ) (k′ : r′ ≡ Count F) where
-        pub fields-few : F ≤ 512
-        fields-few = section-few s (2 + 2 * W) 512 4 5 r′ q′ F k′
-
-        pub fields-room : 4 + 2 * W + 2 * F ≤ length s
-        fields-room = let z = section-room s (2 + 2 * W) 512 4 5 r′ q′ F k′ in omega arith
-
         pub events-answer : (a : Checked) → a ≡ toEndAnswer s W F → a ≡ checked s
         unfolding checked refusal allTests fileTests contentsIn workerCount workerLabel fieldCount fieldLabel eventCount entryIn toEndAnswer _then_ need
         events-answer a t =
@@ -299,3 +307,17 @@ module _ (s : List ℕ) (n r : ℕ) where
   pub field-label-is : (W : ℕ) → W ≡ numberAt s 0 → r ≡ numberAt s (2 + 2 * W + 2 + 2 * n) → r ≡ fieldLabel s n
   unfolding fieldLabel labelAt workerCount
   field-label-is W p q = rw (← p) q
+
+-- what a reader hands out at a place
+module _ (s : List ℕ) (at : ℕ) where
+  pub step-past : length s < at → End ≡ stepAt s at
+  unfolding stepAt
+  step-past l = rw (lt-leb (at + 4) (length s) (omega arith))
+
+  pub step-short : at ≤ length s → length s - at < 4 → End ≡ stepAt s at
+  unfolding stepAt
+  step-short l m = rw (lt-leb (at + 4) (length s) (omega arith))
+
+  pub step-next : (e : Entry) (r : Event) → at ≤ length s → 4 ≤ length s - at → e ≡ entryAt s at → r ≡ eventOf e → Next r (at + 4) ≡ stepAt s at
+  unfolding stepAt
+  step-next e r l m p q = rw (le-leb (at + 4) (length s) (omega arith), ← p, ← q)

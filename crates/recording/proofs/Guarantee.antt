@@ -6,12 +6,11 @@ use Prim.Native.Nat.{ℕ, zero, suc, _+_, _*_, _-_, _<_, _≤_}
 use native.Mathlib.Nat.{sub-zero}
 use native.Mathlib.Omega.{arith}
 use lib.ListN.{length, drop, drop-of-length-le}
-use Rattle.events.specs.declared.Event.{Event}
 use Rattle.events.specs.Acts.{Within, EventWithin}
 use Rattle.recording.specs.declared.Entry.{Entry}
 use Rattle.recording.specs.declared.Counts.{Counts}
 use Rattle.recording.specs.File.{workerCount, fieldCount, eventCount, entryIn, eventOf, eventAt, eventsFrom, eventsIn, Accepted}
-use Rattle.recording.specs.WellFormed.{Good, WellFormed}
+use Rattle.recording.specs.WellFormed.{Good}
 use Rattle.recording.specs.WellFormed.Good.{read, write, crossing}
 use Rattle.recording.proofs.WellFormed.{fine-well-formed}
 

@@ -3,5 +3,6 @@ pub mod Tests
 pub mod WellFormed
 pub mod Acceptance
 pub mod Guarantee
+pub mod Reading
 pub mod Longer
 pub mod Answers

@@ -7,10 +7,9 @@ use lib.Dec.{ltb, leb}
 use borrow.Author.Tests.{leb-true, le-leb, ltb-true, ltb-false, lt-ltb}
 use Rattle.recording.specs.declared.Fault.{Fault}
 use Rattle.recording.specs.declared.Fault.the-variants.{Fine, Refused}
-use Rattle.recording.specs.declared.Counted.{Counted}
 use Rattle.recording.specs.declared.Counted.the-variants.{Refused as Counted-refused, Count}
 use Rattle.recording.specs.Tests.{need, _then_, rising, section, labelSection}
-use Rattle.recording.specs.File.{counted}
+use Rattle.recording.specs.Parts.{counted}
 
 pub need-fine : (t : Bool) (number place : ℕ) → need t number place ≡ Fine → t ≡ true
 unfolding need
@@ -35,9 +34,9 @@ pub record Passed (size at : ℕ) (range : Fault) (bytes : ℕ) (items : Fault) 
 pub section-passed : (size at : ℕ) (range : Fault) (bytes : ℕ) (items : Fault) → section size at range bytes items ≡ Fine → Passed size at range bytes items
 unfolding section
 section-passed size at range bytes items e =
-    let a = then-fine (need (leb (at + 2) size) 1 size) _ e in
-    let b = then-fine range _ (a .1) in
-    let c = then-fine (need (leb (at + 2 + bytes) size) 1 size) items (b .1) in
+    let a = then-fine _ _ e in
+    let b = then-fine _ _ (a .1) in
+    let c = then-fine _ _ (b .1) in
     record {
       range-fine = b .0;
       room = leb-true (at + 2 + bytes) size (need-fine _ _ _ (c .0));
@@ -81,7 +80,7 @@ pub rising-fine : (label : ℕ → ℕ) (number at n k : ℕ) → rising label n
 unfolding rising
 rising-fine label number at n zero e j l m = absurd (omega arith)
 rising-fine label number at n (suc k) e j l m =
-    let a = then-fine (need (ltb (label n) (label (n + 1))) number (at + 2 * (n + 1))) (rising label number at (n + 1) k) e in
+    let a = then-fine _ _ e in
     first-or-later n j l
     (λ q. rw q at (ltb-true (label n) (label (n + 1)) (need-fine _ _ _ (a .0))))
     (λ p. rising-fine label number at (n + 1) k (a .1) j p (omega arith))

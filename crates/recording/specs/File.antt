@@ -3,7 +3,7 @@ use mathlib.Core.Path.{_≡_}
 use mathlib.Core.Bool.{Bool, true, cond}
 use mathlib.Core.List.{List, [], _∷_}
 use Prim.Native.Nat.{ℕ, zero, suc, _+_, _*_}
-use lib.Dec.{eqb}
+use lib.Dec.{eqb, leb}
 use lib.ListN.{length, getD}
 use Rattle.events.specs.declared.Event.{Event}
 use Rattle.events.specs.declared.Event.the-variants.{Read, Write, Crossing}
@@ -11,11 +11,11 @@ use Rattle.recording.specs.declared.Fault.{Fault}
 use Rattle.recording.specs.declared.Fault.the-variants.{Fine, Refused}
 use Rattle.recording.specs.declared.Entry.{Entry}
 use Rattle.recording.specs.declared.Counts.{Counts}
-use Rattle.recording.specs.declared.Counted.{Counted}
-use Rattle.recording.specs.declared.Counted.the-variants.{Refused as Counted-refused, Count}
 use Rattle.recording.specs.declared.Checked.{Checked}
 use Rattle.recording.specs.declared.Checked.the-variants.{Refused as Checked-refused, Fine as Checked-fine}
-use Rattle.recording.specs.Tests.{Contents, eventBytes, fieldsAt, eventsAt, labelSection, eventSection, eventsToEnd, allTests}
+use Rattle.recording.specs.declared.Step.{Step}
+use Rattle.recording.specs.declared.Step.the-variants.{Next, End}
+use Rattle.recording.specs.Tests.{Contents, eventBytes, fieldsAt, eventsAt, allTests}
 
 -- All two-byte numbers have the low byte first.
 abbrev pub twoByte : ℕ → ℕ → ℕ
@@ -25,7 +25,7 @@ twoByte low high = low + 256 * high
 unfoldable pub numberAt : List ℕ → ℕ → ℕ
 numberAt s i = twoByte (getD s i 0) (getD s (i + 1) 0)
 
--- the n-th of the labels that start at place at, 2 bytes each
+-- label n of those that start at place at: a 2-byte label each
 unfoldable pub labelAt : List ℕ → ℕ → ℕ → ℕ
 labelAt s at n = numberAt s (at + 2 * n)
 
@@ -33,7 +33,7 @@ labelAt s at n = numberAt s (at + 2 * n)
 unfoldable pub entryAt : List ℕ → ℕ → Entry
 entryAt s i = record { kind = getD s i 0; worker = getD s (i + 1) 0; field = numberAt s (i + 2) }
 
--- the n-th of the events that start at place at
+-- event n of those that start at place at
 unfoldable pub entriesAt : List ℕ → ℕ → ℕ → Entry
 entriesAt s at n = entryAt s (at + eventBytes * n)
 
@@ -88,17 +88,20 @@ contentsIn s =
       entry = entryIn s;
     }
 
--- The answer to a file, and to lent tables that have their full length or not.
+-- The first test that fails gives the answer. `tables` says that every lent table has its full length.
 unfoldable pub refusal : Bool → List ℕ → Fault
 refusal tables s = allTests tables (length s) (contentsIn s)
 
 abbrev pub countsIn : List ℕ → Counts
 countsIn s = record { workers = workerCount s; fields = fieldCount s; events = eventCount s }
 
--- The answer of the check: the refusal's number and place, or the counts.
+-- What the check answers: the number and place of a refusal, or the counts.
 abbrev pub answered : Fault → Counts → Checked
 answered (Refused number place) counts = Checked-refused number place
 answered Fine counts = Checked-fine counts
+
+unfoldable pub checked : List ℕ → Checked
+checked s = answered (refusal true s) (countsIn s)
 
 -- The file is accepted, and these are its counts: what a reader of its events relies on.
 pub record Accepted (s : List ℕ) (counts : Counts) : Type 0 where
@@ -107,23 +110,6 @@ pub record Accepted (s : List ℕ) (counts : Counts) : Type 0 where
   pub fields : counts .fields ≡ fieldCount s
   pub events : counts .events ≡ eventCount s
 
--- A section's answer, with its count where it is fine.
-abbrev pub counted : Fault → ℕ → Counted
-counted (Refused number place) count = Counted-refused number place
-counted Fine count = Count count
-
--- The parts of the check: a section of labels and the section of events, whose count stands at at, and the events with the end of the file.
-unfoldable pub labelsAnswer : List ℕ → ℕ → ℕ → ℕ → ℕ → Counted
-labelsAnswer s at limit range order =
-    counted (labelSection (length s) at (numberAt s at) (labelAt s (at + 2)) limit range order) (numberAt s at)
-
-unfoldable pub eventsAnswer : List ℕ → ℕ → ℕ → ℕ → Counted
-eventsAnswer s at W F = counted (eventSection (length s) at W F (numberAt s at) (entriesAt s (at + 2))) (numberAt s at)
-
-unfoldable pub toEndAnswer : List ℕ → ℕ → ℕ → Checked
-toEndAnswer s W F =
-    answered (eventsToEnd (length s) W F (numberAt s (eventsAt W F)) (entriesAt s (eventsAt W F + 2)))
-    (record { workers = W; fields = F; events = numberAt s (eventsAt W F) })
-
-unfoldable pub checked : List ℕ → Checked
-checked s = answered (refusal true s) (countsIn s)
+-- A reader hands out one event at a time: the event at a place with the place of the next, or the end where no event's bytes are left.
+unfoldable pub stepAt : List ℕ → ℕ → Step
+stepAt s at = cond (leb (at + eventBytes) (length s)) (Next (eventOf (entryAt s at)) (at + eventBytes)) End

@@ -1,6 +1,5 @@
 -- The tests that a recording passes, with their numbers and places, in their order. They are over numbers, not bytes, so that they hold for a file that is read and for one to be written.
 use mathlib.Core.Bool.{Bool, true, false, cond, _&&_, _||_}
-use mathlib.Core.List.{List, [], _∷_}
 use Prim.Native.Nat.{ℕ, zero, suc, _+_, _*_, _-_}
 use lib.Dec.{eqb, ltb, leb}
 use Rattle.recording.specs.declared.Fault.{Fault}
@@ -33,7 +32,7 @@ eventsAt W F = 4 + 2 * W + 2 * F
 abbrev pub fileSize : ℕ → ℕ → ℕ → ℕ
 fileSize W F E = 6 + 2 * W + 2 * F + eventBytes * E
 
--- 3, 5: label not above the one before; the later label. Label n and the k after it are looked at; label 0 stands at place at.
+-- 3, 5: label not above the one before; the place is the later label. It is about label n and the k labels after it, of those that start at place at.
 unfoldable pub rising : (ℕ → ℕ) → ℕ → ℕ → ℕ → ℕ → Fault
 rising label number at n zero = Fine
 rising label number at n (suc k) =
@@ -58,13 +57,13 @@ eventTests W F e start =
     then need (ltb (e .worker) W) 8 (eventPlace 8 start)
     then need (fieldAllowed F (e .kind) (e .field)) 9 (eventPlace 9 start)
 
--- Event n and on, k of them; event 0 stands at place at.
+-- Event n and the events after it, k in all, of those that start at place at: the first bad event answers.
 unfoldable pub eventsTests : ℕ → ℕ → (ℕ → Entry) → ℕ → ℕ → ℕ → Fault
 eventsTests W F entry at n zero = Fine
 eventsTests W F entry at n (suc k) =
     eventTests W F (entry n) (at + eventBytes * n) then eventsTests W F entry at (n + 1) k
 
--- A section whose count stands at at: the count is present (1), its range, all its items are present (1), its items in order. The place of 1 is the file length.
+-- A section, with its count at place at: a count is present (1), its range, all its items are present (1), its items in order. The place of 1 is the file length.
 unfoldable pub section : ℕ → ℕ → Fault → ℕ → Fault → Fault
 section size at range bytes items =
     need (leb (at + 2) size) 1 size
@@ -72,17 +71,17 @@ section size at range bytes items =
     then need (leb (at + 2 + bytes) size) 1 size
     then items
 
--- Count of workers or fields: from 1 to its limit. Then that many labels.
+-- Worker count, 1 to 16 (2), or field count, 1 to 512 (4); then a 2-byte label each, strictly rising (3, 5). `range` and `order` are the numbers.
 unfoldable pub labelSection : ℕ → ℕ → ℕ → (ℕ → ℕ) → ℕ → ℕ → ℕ → Fault
 labelSection size at count label limit range order =
     section size at (need (ltb 0 count && leb count limit) range at) (2 * count) (rising label order (at + 2) 0 (count - 1))
 
--- Event count, 0 to 16,000 (6). Then that many events.
+-- Event count, 0 to 16,000 (6); then 4 bytes each.
 unfoldable pub eventSection : ℕ → ℕ → ℕ → ℕ → ℕ → (ℕ → Entry) → Fault
 eventSection size at W F count entry =
     section size at (need (leb count 16000) 6 at) (eventBytes * count) (eventsTests W F entry (at + 2) 0 count)
 
--- 10: bytes after the last event; first extra byte.
+-- 10: bytes after the last event; the place is the first extra byte, where the file should end.
 unfoldable pub endTest : ℕ → ℕ → Fault
 endTest size end = need (leb size end) 10 end
 

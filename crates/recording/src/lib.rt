@@ -5,8 +5,9 @@ use sorts::Worker;
 ghost use mathlib.Core.Path.{_≡_};
 ghost use Prim.Native.Nat.{_+_, _*_, _<_, _≤_};
 ghost use lib.ListN.{length, getD};
-ghost use Rattle.recording.specs.Tests.{rising, eventTests, eventsTests, eventsAt};
-ghost use Rattle.recording.specs.File.{twoByte, numberAt, labelAt, entryAt, entriesAt, labelsAnswer, eventsAnswer, toEndAnswer, checked, eventOf, eventAt, workerLabel, fieldLabel, Accepted};
+ghost use Rattle.recording.specs.Tests.{rising, kindAllowed, fieldAllowed, eventTests, eventsTests, eventsAt};
+ghost use Rattle.recording.specs.Parts.{labelsAnswer, eventsAnswer, toEndAnswer};
+ghost use Rattle.recording.specs.File.{twoByte, numberAt, labelAt, entryAt, entriesAt, checked, eventOf, eventAt, workerLabel, fieldLabel, Accepted, stepAt};
 
 // What a test of the file answers.
 pub enum Fault {
@@ -20,6 +21,11 @@ pub struct Entry {
     pub kind: u32,
     pub worker: u32,
     pub field: u32,
+}
+
+impl Entry {
+    // So many bytes each: kind, worker, field (2 bytes).
+    pub const BYTES: usize = 4;
 }
 
 // How many workers, fields and events a file has.
@@ -41,18 +47,21 @@ enum Counted {
     Count(u32),
 }
 
+// A byte as a number.
 fn wide(x: u8) -> u32
     ensures { λ r. ⌜ (r ≡ x) × (r < 256) ⌝ }
 {
     x as u32
 }
 
+// The low byte comes first.
 fn two_byte(low: u8, high: u8) -> u32
     ensures { λ r. ⌜ (r ≡ twoByte low high) × (r < 65536) ⌝ }
 {
     wide(low) + 256 * wide(high)
 }
 
+// The two-byte number at a place of the file.
 fn number_at(file: &[u8], i: usize) -> u32
     requires { ⌜ i + 2 ≤ length (now file) ⌝ }
     ensures { λ r. ⌜ (r ≡ numberAt (now (file .entry)) i) × (r < 65536) ⌝ }
@@ -60,24 +69,24 @@ fn number_at(file: &[u8], i: usize) -> u32
     two_byte(file[i], file[i + 1])
 }
 
-// The label at at is below the next, and so on for as many labels as follow.
+// The label at this place is below the next, and so on for as many labels as follow.
 fn labels(file: &[u8], at: usize, follow: usize, number: u32) -> Fault
     requires { ⌜ at + 2 * follow + 2 ≤ length (now file) ⌝ }
     ensures { λ r. ⌜ r ≡ rising (labelAt (now (file .entry)) at) number at 0 follow ⌝ }
 {
     let mut before = number_at(file, at);
     for n in 0..follow {
-        let place = at + 2 * (n + 1);
-        let label = number_at(file, place);
+        let next = at + 2 * (n + 1);
+        let label = number_at(file, next);
         if label <= before {
-            return Fault::Refused(number, place);
+            return Fault::Refused(number, next);
         }
         before = label;
     }
     Fault::Fine
 }
 
-// A section of labels whose count stands at at.
+// A section of labels, with its count at this place.
 fn label_section(file: &[u8], at: usize, limit: u32, range: u32, order: u32) -> Counted
     requires { ⌜ at ≤ length (now file) ⌝ }
     ensures { λ r. ⌜ r ≡ labelsAnswer (now (file .entry)) at limit range order ⌝ }
@@ -103,6 +112,7 @@ fn label_section(file: &[u8], at: usize, limit: u32, range: u32, order: u32) -> 
     }
 }
 
+// The numbers of the event at a place of the file.
 fn entry_at(file: &[u8], i: usize) -> Entry
     requires { ⌜ i + 4 ≤ length (now file) ⌝ }
     ensures { λ r. ⌜ r ≡ entryAt (now (file .entry)) i ⌝ }
@@ -114,39 +124,52 @@ fn entry_at(file: &[u8], i: usize) -> Entry
     }
 }
 
-// The tests within an event that starts at start.
+// 1 is a read, 2 a write, 3 a crossing.
+fn kind_allowed(kind: u32) -> bool
+    ensures { λ r. ⌜ r ≡ kindAllowed kind ⌝ }
+{
+    if kind == 1 {
+        return true;
+    }
+    if kind == 2 {
+        return true;
+    }
+    kind == 3
+}
+
+// A crossing has field number 0.
+fn field_allowed(fields: u32, kind: u32, field: u32) -> bool
+    ensures { λ r. ⌜ r ≡ fieldAllowed fields kind field ⌝ }
+{
+    if kind == 3 {
+        return field == 0;
+    }
+    field < fields
+}
+
+// The tests within an event, which starts at this place.
 fn test_event(e: Entry, workers: u32, fields: u32, start: usize) -> Fault
     ensures { λ r. ⌜ r ≡ eventTests workers fields e start ⌝ }
 {
-    let kind = e.kind;
-    if kind == 0 {
-        return Fault::Refused(7, start);
-    }
-    if 3 < kind {
+    if !kind_allowed(e.kind) {
         return Fault::Refused(7, start);
     }
     if workers <= e.worker {
         return Fault::Refused(8, start);
     }
-    if kind == 3 {
-        if e.field == 0 {
-            return Fault::Fine;
-        }
+    if !field_allowed(fields, e.kind, e.field) {
         return Fault::Refused(9, start);
     }
-    if e.field < fields {
-        return Fault::Fine;
-    }
-    Fault::Refused(9, start)
+    Fault::Fine
 }
 
-// Each of the events that start at at, to the first that is refused.
+// The events from this place on, to the first that is refused.
 fn test_events(file: &[u8], at: usize, count: usize, workers: u32, fields: u32) -> Fault
     requires { ⌜ at + 4 * count ≤ length (now file) ⌝ }
     ensures { λ r. ⌜ r ≡ eventsTests workers fields (entriesAt (now (file .entry)) at) at 0 count ⌝ }
 {
     for n in 0..count {
-        let start = at + 4 * n;
+        let start = at + Entry::BYTES * n;
         let e = entry_at(file, start);
         if let Fault::Refused(number, place) = test_event(e, workers, fields, start) {
             return Fault::Refused(number, place);
@@ -155,7 +178,7 @@ fn test_events(file: &[u8], at: usize, count: usize, workers: u32, fields: u32) 
     Fault::Fine
 }
 
-// The section of events, whose count stands at at.
+// The section of events, with its count at this place.
 fn event_section(file: &[u8], at: usize, workers: u32, fields: u32) -> Counted
     requires { ⌜ at ≤ length (now file) ⌝ }
     ensures { λ r. ⌜ r ≡ eventsAnswer (now (file .entry)) at workers fields ⌝ }
@@ -169,7 +192,7 @@ fn event_section(file: &[u8], at: usize, workers: u32, fields: u32) -> Counted
         return Counted::Refused(6, at);
     }
     let n = count as usize;
-    if end - at - 2 < 4 * n {
+    if end - at - 2 < Entry::BYTES * n {
         return Counted::Refused(1, end);
     }
     match test_events(file, at + 2, n, workers, fields) {
@@ -187,7 +210,7 @@ fn check_events(file: &[u8], workers: u32, fields: u32) -> Checked
     match event_section(file, at, workers, fields) {
         Counted::Refused(number, place) => Checked::Refused(number, place),
         Counted::Count(events) => {
-            let last = at + 2 + 4 * (events as usize);
+            let last = at + 2 + Entry::BYTES * (events as usize);
             if last < file.len() {
                 return Checked::Refused(10, last);
             }
@@ -237,7 +260,7 @@ pub fn event_at(file: &[u8], counts: Counts, n: u32) -> Event
     ensures { λ r. ⌜ r ≡ eventAt (now (file .entry)) n ⌝ }
 {
     let at = 4 + 2 * (counts.workers as usize) + 2 * (counts.fields as usize);
-    event_of(entry_at(file, at + 2 + 4 * (n as usize)))
+    event_of(entry_at(file, at + 2 + Entry::BYTES * (n as usize)))
 }
 
 // Past the end stands 0.
@@ -250,7 +273,7 @@ fn byte_at(file: &[u8], i: usize) -> u8
     0
 }
 
-// The two-byte number at any place.
+// The two-byte number at any place, the end or past it too.
 fn any_number_at(file: &[u8], i: usize) -> u32
     requires { ⌜ i < 1099511627776 ⌝ }
     ensures { λ r. ⌜ (r ≡ numberAt (now (file .entry)) i) × (r < 65536) ⌝ }
@@ -271,4 +294,75 @@ pub fn field_label(file: &[u8], f: Field) -> u32
 {
     let workers = any_number_at(file, 0) as usize;
     any_number_at(file, 2 + 2 * workers + 2 + 2 * (f.0 as usize))
+}
+
+// What a reader hands out.
+pub enum Step {
+    // An event, and the place of the next.
+    Next(Event, usize),
+    // There is none left.
+    End,
+}
+
+// The work of a reader, at a place of the file.
+pub fn step_at(file: &[u8], at: usize) -> Step
+    ensures { λ r. ⌜ r ≡ stepAt (now (file .entry)) at ⌝ }
+{
+    if file.len() < at {
+        return Step::End;
+    }
+    if file.len() - at < Entry::BYTES {
+        return Step::End;
+    }
+    Step::Next(event_of(entry_at(file, at)), at + Entry::BYTES)
+}
+
+// A reader stands over the lent file and hands out one event at a time: the file, its counts and the place of the next event.
+pub struct Reader<'a> {
+    pub file: &'a [u8],
+    pub workers: u32,
+    pub fields: u32,
+    pub events: u32,
+    pub at: usize,
+}
+
+impl<'a> Reader<'a> {
+    pub fn new(file: &'a [u8], workers: u32, fields: u32, events: u32, at: usize) -> Reader<'a>
+        ensures { λ r. ⌜ r ≡ record { file = file .entry; workers = workers; fields = fields; events = events; at = at } ⌝ }
+    {
+        Reader {
+            file,
+            workers,
+            fields,
+            events,
+            at,
+        }
+    }
+
+    // The event at the reader's place, if there is one left.
+    pub fn next(self) -> Step
+        ensures { λ s. ⌜ s ≡ stepAt (now (self .entry .file)) (self .entry .at) ⌝ }
+    {
+        step_at(self.file, self.at)
+    }
+
+    // The reader at another place.
+    pub fn moved(self, at: usize) -> Reader<'a>
+        ensures { λ r. ⌜ r ≡ record { file = self .entry .file; workers = self .entry .workers; fields = self .entry .fields; events = self .entry .events; at = at } ⌝ }
+    {
+        Reader {
+            file: self.file,
+            workers: self.workers,
+            fields: self.fields,
+            events: self.events,
+            at,
+        }
+    }
+}
+
+// What a reader over the file hands out at a place. Its parameters are plain, so its callers need no walk.
+pub fn read(file: &[u8], workers: u32, fields: u32, events: u32, at: usize) -> Step
+    ensures { λ r. ⌜ r ≡ stepAt (now (file .entry)) at ⌝ }
+{
+    Reader::new(file, workers, fields, events, at).next()
 }

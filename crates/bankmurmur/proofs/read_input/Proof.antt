@@ -3,7 +3,7 @@ use mathlib.Core.Path.{_≡_}
 use Prim.Native.Nat.{_-_, _≤_}
 use lib.ListN.{length}
 use borrow.Author.Needs.{needs}
-use Rattle.bankmurmur.proofs.Program.{holds, read-within}
+use Rattle.bankmurmur.proofs.Program.{counted, read-within}
 use Rattle.bankmurmur.proofs.read_input.Statement.{statement}
 use Rattle.bankmurmur.proofs.read_input.Tie as tie
 
@@ -44,7 +44,7 @@ same-length-2 : tie.Need-same-length-2 Inv-loop μ-loop
 same-length-2 c = search needs
 
 returns-2 : tie.Need-returns-2 Inv-loop μ-loop
-returns-2 c = holds _ _ (search needs)
+returns-2 c = counted _ _ (search needs)
 
 add-at : tie.Need-add-at Inv-loop μ-loop
 add-at c =
@@ -65,7 +65,7 @@ same-length-3 : tie.Need-same-length-3 Inv-loop μ-loop
 same-length-3 c = search needs
 
 returns-3 : tie.Need-returns-3 Inv-loop μ-loop
-returns-3 c = search holds
+returns-3 c = counted _ _ (search needs)
 
 pub read-input-spec : {M : Type 1} → statement M
 read-input-spec =

@@ -1,26 +1,16 @@
 -- `early::search` meets its contract: what the cleared tables show, and what they show in the end.
 use borrow.Author.Needs.{needs}
-use Rattle.early.proofs.Answers.{workers-fit, cleared-ready, cleared-ran}
+use Rattle.early.proofs.Answers.{accepted-few, cleared-ready, cleared-ran}
 use Rattle.early.proofs.search.Statement.{statement}
 use Rattle.early.proofs.search.Tie as tie
 
-fill-requires : tie.Need-fill-requires
-fill-requires c κs = search needs
-
-cast-fill : tie.Need-cast-fill
-cast-fill c = search needs
-
-fill-requires-2 : tie.Need-fill-requires-2
-fill-requires-2 c κs = search workers-fit
-
-fill-requires-3 : tie.Need-fill-requires-3
-fill-requires-3 c κs = search needs
-
-fill-requires-4 : tie.Need-fill-requires-4
-fill-requires-4 c κs = search needs
+clear-requires : tie.Need-clear-requires
+clear-requires c κs = search (needs, accepted-few)
 
 run-requires : tie.Need-run-requires
-run-requires c κs = search cleared-ready
+run-requires c κs =
+    let at-clear = c .before .before .before .before .before .before .before .before .before in
+    cleared-ready _ _ _ _ _ _ _ _ (at-clear .clear .ensures) (at-clear .before .before .before .before .before .before .before .before .pre .0)
 
 same-length : tie.Need-same-length
 same-length c = search needs
@@ -37,14 +27,4 @@ returns c = search cleared-ran
 pub search-spec : {M : Type 1} → statement M
 search-spec =
     tie.close
-    (tie.spec
-    fill-requires
-    cast-fill
-    fill-requires-2
-    fill-requires-3
-    fill-requires-4
-    run-requires
-    same-length
-    same-length-2
-    same-length-3
-    returns)
+    (tie.spec clear-requires run-requires same-length same-length-2 same-length-3 returns)

@@ -1,5 +1,5 @@
 -- `check` answers as the whole list of tests does: one law for each way out.
-use Rattle.recording.proofs.Answers.{workers-refused, workers-room, workers-few, fields-refused, fields-few, fields-room, events-answer}
+use Rattle.recording.proofs.Answers.{section-few, workers-room, workers-refused, fields-room, fields-refused, events-answer}
 use borrow.Author.Needs.{needs}
 use Rattle.recording.proofs.check.Statement.{statement}
 use Rattle.recording.proofs.check.Tie as tie
@@ -32,7 +32,7 @@ enum-known-fields : tie.Need-enum-known-fields
 enum-known-fields c = search needs
 
 check-events-requires : tie.Need-check-events-requires
-check-events-requires c κs = search (needs, workers-few, fields-few, fields-room)
+check-events-requires c κs = search (needs, section-few, fields-room)
 
 returns : tie.Need-returns
 returns c = search workers-refused

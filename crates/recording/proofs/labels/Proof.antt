@@ -24,14 +24,14 @@ number-at-requires c κs = search needs
 loop-holds : tie.Need-loop-holds Inv-loop μ-loop
 loop-holds c = search (needs, label-first, sub-zero)
 
-add-place : tie.Need-add-place Inv-loop μ-loop
-add-place c = search needs
+add-next : tie.Need-add-next Inv-loop μ-loop
+add-next c = search needs
 
-mul-place : tie.Need-mul-place Inv-loop μ-loop
-mul-place c = search needs
+mul-next : tie.Need-mul-next Inv-loop μ-loop
+mul-next c = search needs
 
-add-place-2 : tie.Need-add-place-2 Inv-loop μ-loop
-add-place-2 c = search needs
+add-next-2 : tie.Need-add-next-2 Inv-loop μ-loop
+add-next-2 c = search needs
 
 number-at-requires-2 : tie.Need-number-at-requires-2 Inv-loop μ-loop
 number-at-requires-2 c κs = search needs
@@ -59,9 +59,9 @@ labels-spec =
     μ-loop
     number-at-requires
     loop-holds
-    add-place
-    mul-place
-    add-place-2
+    add-next
+    mul-next
+    add-next-2
     number-at-requires-2
     returns
     add-n

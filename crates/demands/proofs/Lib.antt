@@ -1,0 +1,2 @@
+-- Demand 3, proved of the two finders' statements.
+pub mod Together

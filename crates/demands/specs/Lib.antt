@@ -1,0 +1,2 @@
+-- What must be believed of the two finders together.
+pub mod Together
