@@ -49,6 +49,7 @@ fn read_input(buffer: &mut [u8]) -> Input
     Input::Bytes(at)
 }
 
+// What each finder says of a file, with tables of its own.
 fn early_answer(file: &[u8]) -> Answer
     ensures { λ r. ⌜ saidBy r ≡ said (refusal true (now (file .entry))) (earlyVerdict (eventsIn (now (file .entry)))) ⌝ }
 {
@@ -82,6 +83,7 @@ fn answer(file: &[u8], out: &mut [u8; lines::SIZE]) -> usize
     }
 }
 
+// The answer goes out in one piece. No well-formed file fills the buffer, so what is past it changes no answer.
 fn main() {
     let mut buffer = [0u8; 65536];
     match read_input(&mut buffer) {

@@ -15,6 +15,7 @@ use tables::Answer;
 // Bytes of a buffer that holds every report: numbers have at most 20 digits, so three lines have fewer than 300 bytes.
 pub const SIZE: usize = 512;
 
+// The bytes of a text.
 fn put(out: &mut [u8], at: usize, text: &[u8]) -> usize
     requires { ⌜ at + length (now text) ≤ length (now out) ⌝ }
     ensures { λ r. ⌜ Puts (length (now (text .entry))) (now (text .entry)) (now (out .entry)) at (now (out .exit)) r ⌝ }

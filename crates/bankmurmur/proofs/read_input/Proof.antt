@@ -46,20 +46,18 @@ same-length-2 c = search needs
 returns-2 : tie.Need-returns-2 Inv-loop μ-loop
 returns-2 c = counted _ _ (search needs)
 
+-- a read brings no more than was asked for
+few : (c : tie.Else1 Inv-loop μ-loop) → c .before .before .more .given .0 .0 ≤ length (c .before .before .before .before .before .before .read-some .last .0)
+few c = search read-within
+
 add-at : tie.Need-add-at Inv-loop μ-loop
-add-at c =
-    let few : c .before .before .more .given .0 .0 ≤ length (c .before .before .before .before .before .before .read-some .last .0) = search read-within in
-    search needs
+add-at c = let l = few c in search needs
 
 loop-less : tie.Need-loop-less Inv-loop μ-loop
-loop-less c =
-    let few : c .before .before .more .given .0 .0 ≤ length (c .before .before .before .before .before .before .read-some .last .0) = search read-within in
-    search needs
+loop-less c = let l = few c in search needs
 
 loop-again : tie.Need-loop-again Inv-loop μ-loop
-loop-again c =
-    let few : c .before .before .more .given .0 .0 ≤ length (c .before .before .before .before .before .before .read-some .last .0) = search read-within in
-    search needs
+loop-again c = let l = few c in search needs
 
 same-length-3 : tie.Need-same-length-3 Inv-loop μ-loop
 same-length-3 c = search needs
