@@ -1,0 +1,2 @@
+-- What must be believed of the program beside the printed text.
+pub mod Program

@@ -1,0 +1,52 @@
+-- Text as lists of ASCII numbers: words, decimal numbers, lines, and text put into a buffer.
+use mathlib.Core.Path.{_≡_}
+use mathlib.Core.Bool.{cond}
+use mathlib.Core.List.{List, [], _∷_, _++_}
+use Prim.Native.Nat.{ℕ, zero, suc, _+_, _/_, _%_, _≤_}
+use Prim.Native.Char.{code}
+use Prim.Native.String.{String, [] as none, _∷_ as _before_}
+use lib.Dec.{ltb}
+use lib.ListN.{length, take, drop}
+use Rattle.io.specs.Counts.{Counts}
+
+-- a text's characters, by their numbers
+abbrev pub ascii : String → List ℕ
+ascii none = []
+ascii (c before more) = code c ∷ ascii more
+
+abbrev pub digit : ℕ → ℕ
+digit d = code "0" + d
+
+-- A number below 10 is its digit; any other is its tenth and then its last digit. The first argument bounds the steps: n or more are enough for n.
+unfoldable pub spelled : ℕ → ℕ → List ℕ
+spelled zero n = digit n ∷ []
+spelled (suc steps) n = cond (ltb n 10) (digit n ∷ []) (spelled steps (n / 10) ++ (digit (n % 10) ∷ []))
+
+-- a number in decimal, with no leading zeros; 0 is one digit
+unfoldable pub decimal : ℕ → List ℕ
+decimal n = spelled n n
+
+-- words with a space before each, and a line end after the last
+unfoldable pub rest : List (List ℕ) → List ℕ
+rest [] = ascii "\n"
+rest (word ∷ more) = ascii " " ++ (word ++ rest more)
+
+-- a line: its first word and more, a space between, a line end after
+unfoldable pub line : List ℕ → List (List ℕ) → List ℕ
+line word more = word ++ rest more
+
+-- the buffer with this text at this place, and all its other bytes as they were
+unfoldable pub put : List ℕ → ℕ → List ℕ → List ℕ
+put out at text = take at out ++ text ++ drop (at + length text) out
+
+-- The text, of at most so many bytes, stands at place at of the buffer that was lent as lent; the next place is past it.
+pub record Puts (most : ℕ) (text lent : List ℕ) (at : ℕ) (out : List ℕ) (next : ℕ) : Type 0 where
+  pub bytes : out ≡ put lent at text
+  pub past : next ≡ at + length text
+  pub short : length text ≤ most
+
+-- The first n bytes of the buffer are the text, and all its other bytes are as they were lent.
+pub record Starts (text lent out : List ℕ) (n : ℕ) : Type 0 where
+  pub counts : Counts n out
+  pub says : take n out ≡ text
+  pub others : drop n out ≡ drop n lent
