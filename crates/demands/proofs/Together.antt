@@ -1,7 +1,7 @@
 -- The two finders' statements, and what is proved of the verdicts, give demand 3 of the finders themselves.
 use mathlib.Core.Path.{_≡_, refl, sym, _∙_, ap}
 use mathlib.Core.Bool.{true}
-use mathlib.Core.List.{List, []}
+use mathlib.Core.List.{List}
 use Prim.Native.Nat.{ℕ}
 use Rattle.events.specs.Verdicts.{Verdict, earlyVerdict, lateVerdict}
 use Rattle.events.specs.Reports as verdicts
@@ -16,7 +16,7 @@ use Rattle.tables.specs.Answers.{Said, judged}
 use Rattle.tables.proofs.Laws.{judged-same}
 use Rattle.early.specs.Finds as early
 use Rattle.late.specs.Finds as late
-use Rattle.demands.specs.Together.{Reports, ReportsSome, ReportsBy, actsIn, Together}
+use Rattle.demands.specs.Together.{Reports, ReportsSome, ReportsBy, Together}
 
 -- a report of the answer is one of the verdict
 module _ (a : Said) (v : Verdict) (says : a ≡ judged v) where

@@ -11,7 +11,7 @@ use Rattle.events.specs.Reports.{EventNames, Exactly}
 use Rattle.events.proofs.Demands.{early-names, early-accepts}
 use Rattle.recording.specs.declared.Fault.{Fault}
 use Rattle.recording.specs.declared.Fault.the-variants.{Fine}
-use Rattle.recording.specs.File.{refusal, eventsIn, countsIn, Accepted}
+use Rattle.recording.specs.File.{eventsIn, countsIn}
 use Rattle.recording.specs.WellFormed.{WellFormed}
 use Rattle.recording.proofs.Guarantee.{Guarantee, guarantee}
 use Rattle.recording.proofs.WellFormed.{well-formed-fine}

@@ -1,5 +1,5 @@
 -- What each way through the code's functions answers, over plain numbers, lists and events.
-use mathlib.Core.Path.{_≡_, refl, sym, _∙_}
+use mathlib.Core.Path.{_≡_}
 use mathlib.Core.Bool.{Bool, false}
 use mathlib.Core.List.{List}
 use Prim.Native.Nat.{ℕ, _+_, _*_, _<_}
@@ -19,7 +19,7 @@ use Rattle.tables.specs.declared.Verdict.{Verdict}
 use Rattle.tables.specs.declared.Verdict.the-variants.{Accepted, Reported}
 use Rattle.tables.specs.Answers.{foundOf, verdictOf}
 use Rattle.tables.specs.Steps.{isOpen, stretchWith, writerWith, stretchAfter, writerAfter}
-use Rattle.early.specs.Steps.{readerOpen, meets, readersWith, readersAfter, Room, Entered, Stepped}
+use Rattle.early.specs.Steps.{readerOpen, meets, readersWith, readersAfter, Entered, Stepped}
 
 module _ (W : ℕ) (S Rd : List ℕ) (w base u : ℕ) where
   pub reader-self : u ≡ w → false ≡ readerOpen W S Rd w base u

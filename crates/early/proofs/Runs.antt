@@ -1,9 +1,9 @@
 -- The finder's loop: what holds before event n, and what each way on gives.
-use mathlib.Core.Path.{_≡_, refl, sym, _∙_, ap}
+use mathlib.Core.Path.{_≡_, sym, _∙_, ap}
 use mathlib.Core.List.{List, []}
 use Prim.Native.Nat.{ℕ, _+_, _<_, _≤_}
 use native.Mathlib.Omega.{arith}
-use lib.ListN.{length, getD}
+use lib.ListN.{length}
 use Rattle.sorts.specs.declared.Worker.{Worker}
 use Rattle.sorts.specs.declared.Field.{Field}
 use Rattle.events.specs.declared.Event.{Event}
@@ -27,8 +27,8 @@ use Rattle.tables.specs.Steps.{stretchAfter, writerAfter}
 use Rattle.tables.proofs.Lent.{shown-length}
 use Rattle.tables.proofs.Files.{file-sound-full, file-numbers, file-worker, file-stretch}
 use Rattle.tables.proofs.Shown.{shown-stretch}
-use Rattle.tables.proofs.Runs.{Sees, Reached, reached-start, reached-next, reached-stop, reached-end, now-within, event-within, history-next, history-stop, history-end}
-use Rattle.early.specs.Steps.{meets, readersAfter, Sized, Room, Stepped}
+use Rattle.tables.proofs.Runs.{Sees, Reached, Course, reached-start, reached-next, reached-stop, reached-end, now-within, event-within, history-next, history-stop, history-end}
+use Rattle.early.specs.Steps.{meets, readersAfter, Room, Stepped}
 use Rattle.early.specs.Runs.{Shows, Ready, Ran}
 use Rattle.early.proofs.Shown.{meets-shown, shows-after}
 
@@ -47,6 +47,7 @@ early-sees W F few = record {
     number h n e m s w u f q (all-calm k _) = not-both (firstOf (earlyLook h n) e) m s w u f k q
     number h n e m s w u f q (one-met a b d g k _) = cc
 
+-- nothing more is said at the end
 abbrev end : History → ℕ → papers.Verdict
 end h n = accepted
 
@@ -78,17 +79,14 @@ module _ (file : List ℕ) (counts : Counts) (S₀ Wr₀ Rd₀ : List ℕ) (read
   good : Guarantee file counts
   good = guarantee file counts (ready .checked)
 
-  sound : Sound (counts .workers) 512 (recordingOf (eventsIn file))
-  sound = file-sound-full file counts good
-
-  sees : Sees earlyLook (counts .workers) 512
-  sees = early-sees (counts .workers) 512 (good .few-workers)
+  course : Course earlyLook end (counts .workers) 512 file counts
+  course = record { sees = early-sees (counts .workers) 512 (good .few-workers); good = good; sound = file-sound-full file counts good }
 
   pub run-start : Running file counts S₀ Wr₀ Rd₀ S₀ Wr₀ Rd₀ 0
   unfolding before
   run-start =
       running file counts S₀ Wr₀ Rd₀ S₀ Wr₀ Rd₀ 0 (omega arith) (good .few-events)
-      (reached-start earlyLook end (counts .workers) 512 sees file counts good sound)
+      (reached-start course)
       (ready .empty)
 
   -- before event n
@@ -97,12 +95,12 @@ module _ (file : List ℕ) (counts : Counts) (S₀ Wr₀ Rd₀ : List ℕ) (read
     now = before [] (recordingOf (eventsIn file)) n
 
     inside : ActsWithin (counts .workers) 512 now
-    inside = now-within earlyLook end (counts .workers) 512 sees file counts good sound n (run .so-far)
+    inside = now-within course n (run .so-far)
 
     pub run-end : counts .events ≤ n → Ran file counts accepted S₀ Wr₀ Rd₀ S Wr Rd
     run-end l = record {
-      answer = sym (reached-end earlyLook end (counts .workers) 512 sees file counts good sound n (run .so-far) l);
-      shows = rw (history-end earlyLook end (counts .workers) 512 sees file counts good sound (ready .checked) n (run .low) l) (run .shows);
+      answer = sym (reached-end course n (run .so-far) l);
+      shows = rw (history-end course (ready .checked) n (run .low) l) (run .shows);
     }
 
     module _ (l : n < counts .events) where
@@ -110,7 +108,7 @@ module _ (file : List ℕ) (counts : Counts) (S₀ Wr₀ Rd₀ : List ℕ) (read
       event = actsOf (eventAt file n)
 
       event-inside : ActsWithin (counts .workers) 512 event
-      event-inside = event-within earlyLook end (counts .workers) 512 sees file counts good sound n (run .so-far) l
+      event-inside = event-within course n (run .so-far) l
 
       pub run-room : (e : Event) → e ≡ eventAt file n → Room e S Wr Rd
       run-room e q = rw q (record {
@@ -127,8 +125,8 @@ module _ (file : List ℕ) (counts : Counts) (S₀ Wr₀ Rd₀ : List ℕ) (read
       entered : firstOf (earlyLook now n) event ≡ accepted → Running file counts S₀ Wr₀ Rd₀ (stretchAfter S event) (writerAfter S Wr event) (readersAfter S Rd event) (n + 1)
       entered o =
           running file counts S₀ Wr₀ Rd₀ (stretchAfter S event) (writerAfter S Wr event) (readersAfter S Rd event) (n + 1) (omega arith) (run .short)
-          (reached-next earlyLook end (counts .workers) 512 sees file counts good sound n (run .so-far) l o)
-          (rw (history-next earlyLook end (counts .workers) 512 sees file counts good sound n (run .so-far) l)
+          (reached-next course n (run .so-far) l o)
+          (rw (history-next course n (run .so-far) l)
           (shows-after (counts .workers) (good .few-workers) S₀ Wr₀ Rd₀ now inside S Wr Rd (run .shows) event event-inside))
 
       module _ (e : Event) (q : e ≡ eventAt file n) (r : Verdict) (S′ Wr′ Rd′ : List ℕ) (step : Stepped (counts .workers) n e (verdictOf r) S Wr Rd S′ Wr′ Rd′) where
@@ -147,6 +145,6 @@ module _ (file : List ℕ) (counts : Counts) (S₀ Wr₀ Rd₀ : List ℕ) (read
             let o′ = ap verdictOf o in
             rw (rw o at (step .stretch), rw o at (step .writer), rw o at (step .readers))
             (record {
-              answer = o′ ∙ sym (reached-stop earlyLook end (counts .workers) 512 sees file counts good sound n (run .so-far) l m a (w .0) (u .0) (f .0) (sym says ∙ o′));
-              shows = rw (history-stop earlyLook end (counts .workers) 512 sees file counts good sound n (run .so-far) l (verdictOf r) m a (w .0) (u .0) (f .0) says o′) (run .shows);
+              answer = o′ ∙ sym (reached-stop course n (run .so-far) l m a (w .0) (u .0) (f .0) (sym says ∙ o′));
+              shows = rw (history-stop course n (run .so-far) l (verdictOf r) m a (w .0) (u .0) (f .0) says o′) (run .shows);
             })

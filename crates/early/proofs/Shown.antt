@@ -1,17 +1,17 @@
 -- Tables that show a history: what an event meets by the words is the early look at it, and with its acts entered they show the longer
 -- history.
-use mathlib.Core.Path.{_≡_, refl, sym, _∙_}
-use mathlib.Core.Bool.{Bool, true, false, not, _&&_, and-false}
+use mathlib.Core.Path.{_≡_, refl, sym}
+use mathlib.Core.Bool.{true, false, not, _&&_, and-false}
 use mathlib.Core.List.{List, [], _∷_}
-use Prim.Native.Nat.{ℕ, _+_, _*_, _/_, _%_, _<_, _≤_}
+use Prim.Native.Nat.{ℕ, _+_, _*_, _%_, _<_, _≤_}
 use native.Mathlib.Omega.{arith}
 use lib.Dec.{eqb, ltb}
 use lib.ListN.{getD, set}
 use borrow.Author.Tests.{ltb-true, ltb-false}
 use Rattle.events.specs.Acts.{Act, History, entered, reads, writes, crosses}
-use Rattle.events.specs.Stretches.{stretchOf, hasRead}
+use Rattle.events.specs.Stretches.{hasRead}
 use Rattle.events.specs.Clashes.{OnWritten}
-use Rattle.events.specs.Words.{stretchWord, writerWord, readersWord}
+use Rattle.events.specs.Words.{writerWord, readersWord}
 use Rattle.events.specs.Search.{lowest}
 use Rattle.events.specs.Verdicts.{firstOf, otherReader, earlyBy, earlyLook}
 use Rattle.events.proofs.Tests.{bool, same}

@@ -1,7 +1,7 @@
 -- The late verdict against the clashes: it is calm as long as nothing has clashed, a stale read stays until its worker crosses,
 -- and so it reports where document 01 says.
 use mathlib.Core.Path.{_≡_, refl, sym, _∙_, ap}
-use mathlib.Core.Bool.{Bool, true, false, not, _&&_, _||_, and-false, or-true}
+use mathlib.Core.Bool.{true, false, not, _&&_, and-false, or-true}
 use mathlib.Core.List.{List, [], _∷_}
 use Prim.Native.Nat.{ℕ, zero, suc, _+_, _<_, _≤_}
 use native.Mathlib.Omega.{arith}
@@ -11,12 +11,12 @@ use borrow.Author.Tests.{eq-eqb, ne-eqb, ltb-true, ltb-false}
 use Rattle.events.specs.Acts.{Act, History, Recording, entered, before, workerOf, reads, writes, crosses}
 use Rattle.events.specs.Stretches.{hasRead, hasWritten, staleRead}
 use Rattle.events.specs.Clashes.{Clash, write-after-write, write-after-read, read-after-write, OnWritten, write-on-written, read-on-written, Some, here, later, SomeAt, FirstClash}
-use Rattle.events.specs.Search.{Found, lowest, at, none}
-use Rattle.events.specs.Verdicts.{Verdict, accepted, reported, firstOf, walk, otherWriter, staleField, staleBy, endBy, lateLook, late}
+use Rattle.events.specs.Search.{at, none}
+use Rattle.events.specs.Verdicts.{Verdict, accepted, reported, firstOf, otherWriter, staleField, endBy, lateLook, late}
 use Rattle.events.specs.Reports.{LowestOther, Reports, Writes, Crosses}
 use Rattle.events.proofs.Tests.{bool, same, T-of, of-T}
-use Rattle.events.proofs.Search.{found, lowest-at, lowest-none, none-pass}
-use Rattle.events.proofs.Histories.{ActWithin, ActsWithin, ActsOf, Sound, event-sound, before-next, before-within, No, calm-before}
+use Rattle.events.proofs.Search.{found, lowest-at, lowest-none}
+use Rattle.events.proofs.Histories.{ActsWithin, ActsOf, Sound, event-sound, before-next, before-within, No, calm-before}
 use Rattle.events.proofs.Stretches.{other-read, own-clash, some-on-written, unused-read, unused-written}
 use Rattle.events.proofs.Early.{other-none, other-at}
 use Rattle.events.proofs.Walks.{verdict, not-both, Walked, to-end, stops, walked}

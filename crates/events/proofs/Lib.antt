@@ -9,4 +9,5 @@ pub mod Walks
 pub mod Early
 pub mod Late
 pub mod Words
+pub mod Unused
 pub mod Stale

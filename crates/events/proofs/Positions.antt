@@ -1,8 +1,8 @@
 -- The definitions that look back over a history say what the numbers of the events say.
-use mathlib.Core.Path.{_≡_, refl, sym, _∙_, ap}
+use mathlib.Core.Path.{_≡_, refl, sym, _∙_}
 use mathlib.Core.Bool.{Bool, true, false, not, _&&_, _||_, or-true}
 use mathlib.Core.List.{List, [], _∷_}
-use Prim.Native.Nat.{ℕ, zero, suc, _+_, _<_}
+use Prim.Native.Nat.{ℕ, zero, suc}
 use native.Mathlib.Omega.{arith}
 use lib.Dec.{eqb, T}
 use lib.ListN.{getD}
@@ -124,6 +124,21 @@ crossing-of w (Read u g) t = absurd (T-of t)
 crossing-of w (Write u g) t = absurd (T-of t)
 crossing-of w (Crossing u) t = let q = eqb-true (u .0) w t in rw (← q)
 
+-- an access is followed where its events are known and every other event but w's crossing changes nothing
+follows-access : (has : History → Bool) (access : Event) (w : ℕ) (hit : Event → Bool) → has [] ≡ false
+    → ((h : History) (e : Event) → has (entered h (actsOf e)) ≡ (hit e || (not (crossingOf w e) && has h)))
+    → ((e : Event) → hit e ≡ true → e ≡ access) → hit access ≡ true → Follows has access w
+follows-access has access w hit begins goes-on hit-is access-hits = record {
+  hit = hit;
+  crosses = crossingOf w;
+  begins = begins;
+  goes-on = goes-on;
+  hit-is = hit-is;
+  access-hits = access-hits;
+  crossing-is = crossing-of w;
+  crossing-crosses = eq-eqb w w refl;
+}
+
 module _ (w f : ℕ) where
   abbrev readOf : Event → Bool
   readOf (Read u g) = eqb (g .0) f && eqb (u .0) w
@@ -143,16 +158,8 @@ module _ (w f : ℕ) where
 
   pub read-follows : Follows (λ h. hasRead h w f) (Read (record { 0 = w }) (record { 0 = f })) w
   unfolding hasRead
-  read-follows = record {
-    hit = readOf;
-    crosses = crossingOf w;
-    begins = refl;
-    goes-on = read-on;
-    hit-is = read-of;
-    access-hits = both-same f w;
-    crossing-is = crossing-of w;
-    crossing-crosses = eq-eqb w w refl;
-  }
+  read-follows =
+      follows-access (λ h. hasRead h w f) (Read (record { 0 = w }) (record { 0 = f })) w readOf refl read-on read-of (both-same f w)
 
   abbrev writeOf : Event → Bool
   writeOf (Read u g) = false
@@ -172,13 +179,5 @@ module _ (w f : ℕ) where
 
   pub written-follows : Follows (λ h. hasWritten h w f) (Write (record { 0 = w }) (record { 0 = f })) w
   unfolding hasWritten
-  written-follows = record {
-    hit = writeOf;
-    crosses = crossingOf w;
-    begins = refl;
-    goes-on = write-on;
-    hit-is = write-of;
-    access-hits = both-same f w;
-    crossing-is = crossing-of w;
-    crossing-crosses = eq-eqb w w refl;
-  }
+  written-follows =
+      follows-access (λ h. hasWritten h w f) (Write (record { 0 = w }) (record { 0 = f })) w writeOf refl write-on write-of (both-same f w)

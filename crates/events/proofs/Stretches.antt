@@ -1,17 +1,17 @@
 -- Laws of what open stretches have read and written: whose acts matter, and workers that do not exist.
 use mathlib.Core.Path.{_≡_, refl, sym, _∙_}
-use mathlib.Core.Bool.{Bool, true, false, not, _&&_, _||_, and-false, or-true}
+use mathlib.Core.Bool.{false, not, and-false}
 use mathlib.Core.List.{List, [], _∷_}
 use Prim.Native.Nat.{ℕ, zero, suc, _+_, _<_, _≤_}
 use native.Mathlib.Omega.{arith}
-use lib.Dec.{eqb, T}
+use lib.Dec.{eqb}
 use lib.ListN.{length, getD}
-use borrow.Author.Tests.{eq-eqb, ne-eqb}
+use borrow.Author.Tests.{ne-eqb}
 use Rattle.events.specs.declared.Event.{Event}
 use Rattle.events.specs.Acts.{Act, History, recordingOf, entered, before, workerOf, reads, writes, crosses}
-use Rattle.events.specs.Stretches.{stretchOf, hasRead, hasWritten, staleRead}
+use Rattle.events.specs.Stretches.{stretchOf, hasRead, hasWritten}
 use Rattle.events.specs.Clashes.{Clash, write-after-write, write-after-read, read-after-write, OnWritten, write-on-written, read-on-written, Some, here, later}
-use Rattle.events.proofs.Tests.{bool, same, T-of}
+use Rattle.events.proofs.Tests.{bool}
 use Rattle.events.proofs.Histories.{ActsWithin, event-short, before-next}
 
 -- each crossing raises a stretch's number by one, from 1 on

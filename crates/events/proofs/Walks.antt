@@ -1,5 +1,5 @@
 -- What walking a recording says, by the numbers of its events: it goes to the end, or stops at the first event with a report.
-use mathlib.Core.Path.{_≡_, refl, sym, _∙_, ap}
+use mathlib.Core.Path.{_≡_, refl, sym, _∙_}
 use mathlib.Core.List.{List, [], _∷_}
 use Prim.Native.Nat.{ℕ, zero, suc, _+_, _<_, _≤_}
 use native.Mathlib.Numerals.{add-one}
@@ -8,7 +8,7 @@ use lib.ListN.{length, getD, drop}
 use lib.Seq.{drop-cons, drop-length}
 use Rattle.events.specs.Acts.{Act, History, Recording, entered, before}
 use Rattle.events.specs.Clashes.{OnWritten, SomeAt}
-use Rattle.events.specs.Verdicts.{Verdict, accepted, reported, andThen, firstOf, walk}
+use Rattle.events.specs.Verdicts.{Verdict, accepted, reported, firstOf, walk}
 use Rattle.events.proofs.Histories.{Sound, event-sound, before-next, No, calm-entered}
 use Rattle.events.proofs.Stretches.{own-on-written}
 

@@ -1,5 +1,5 @@
 -- The finder's loop: what holds before event n, and what each way on gives.
-use mathlib.Core.Path.{_≡_, refl, sym, _∙_, ap}
+use mathlib.Core.Path.{_≡_, sym, _∙_, ap}
 use mathlib.Core.List.{List, []}
 use Prim.Native.Nat.{ℕ, _+_, _<_, _≤_}
 use native.Mathlib.Omega.{arith}
@@ -9,7 +9,7 @@ use Rattle.sorts.specs.declared.Field.{Field}
 use Rattle.events.specs.declared.Event.{Event}
 use Rattle.events.specs.Acts.{Act, History, actsOf, recordingOf, before}
 use Rattle.events.specs.Clashes.{OnWritten, Some}
-use Rattle.events.specs.Words.{stretchWord, writerWord, versionWord, logWord}
+use Rattle.events.specs.Words.{writerWord, versionWord, logWord}
 use Rattle.events.specs.Verdicts.{accepted, reported, firstOf, staleField, endBy, lateLook}
 use Rattle.events.specs.Verdicts as papers
 use Rattle.events.proofs.Histories.{ActsWithin, Sound}
@@ -25,7 +25,7 @@ use Rattle.tables.specs.Answers.{verdictOf}
 use Rattle.tables.specs.Finds.{shownBy}
 use Rattle.tables.proofs.Lent.{shown-length}
 use Rattle.tables.proofs.Files.{file-sound}
-use Rattle.tables.proofs.Runs.{Sees, Reached, reached-start, reached-next, reached-stop, reached-end, now-within, event-within, history-next, history-stop, history-end}
+use Rattle.tables.proofs.Runs.{Sees, Reached, Course, reached-start, reached-next, reached-stop, reached-end, now-within, event-within, history-next, history-stop, history-end}
 use Rattle.late.specs.Stale.{staleFieldBy}
 use Rattle.late.specs.Steps.{Room, Stepped}
 use Rattle.late.specs.Runs.{Shows, Ready, Ran}
@@ -81,17 +81,14 @@ module _ (file : List ℕ) (counts : Counts) (S₀ Wr₀ Vr₀ Lg₀ : List ℕ)
   good : Guarantee file counts
   good = guarantee file counts (ready .checked)
 
-  sound : Sound (counts .workers) (counts .fields) (recordingOf (eventsIn file))
-  sound = file-sound file counts good
-
-  sees : Sees (lateLook (counts .fields)) (counts .workers) (counts .fields)
-  sees = late-sees (counts .workers) (counts .fields) (good .few-workers)
+  course : Course (lateLook (counts .fields)) (end (counts .workers) (counts .fields)) (counts .workers) (counts .fields) file counts
+  course = record { sees = late-sees (counts .workers) (counts .fields) (good .few-workers); good = good; sound = file-sound file counts good }
 
   pub run-start : Running file counts S₀ Wr₀ Vr₀ Lg₀ S₀ Wr₀ Vr₀ Lg₀ 0
   unfolding before
   run-start =
       running file counts S₀ Wr₀ Vr₀ Lg₀ S₀ Wr₀ Vr₀ Lg₀ 0 (omega arith) (good .few-events)
-      (reached-start (lateLook (counts .fields)) (end (counts .workers) (counts .fields)) (counts .workers) (counts .fields) sees file counts good sound)
+      (reached-start course)
       (ready .empty)
 
   -- before event n
@@ -101,7 +98,7 @@ module _ (file : List ℕ) (counts : Counts) (S₀ Wr₀ Vr₀ Lg₀ : List ℕ)
 
     inside : ActsWithin (counts .workers) (counts .fields) now
     inside =
-        now-within (lateLook (counts .fields)) (end (counts .workers) (counts .fields)) (counts .workers) (counts .fields) sees file counts good sound n (run .so-far)
+        now-within course n (run .so-far)
 
     -- the counts and the lengths that the search at the end asks for
     pub end-workers : counts .workers ≤ 16
@@ -123,7 +120,7 @@ module _ (file : List ℕ) (counts : Counts) (S₀ Wr₀ Vr₀ Lg₀ : List ℕ)
     pub run-end : (v : papers.Verdict) → counts .events ≤ n → v ≡ endBy (staleFieldBy (counts .fields) Lg Vr Wr) (counts .events) 0 (counts .workers)
         → Ran file counts v S₀ Wr₀ Vr₀ Lg₀ S Wr Vr Lg
     run-end v l q = record {
-      answer = says ∙ sym (reached-end (lateLook (counts .fields)) (end (counts .workers) (counts .fields)) (counts .workers) (counts .fields) sees file counts good sound n (run .so-far) l);
+      answer = says ∙ sym (reached-end course n (run .so-far) l);
       shows = rw (all-shown (end-looked (counts .fields) now n 0 (counts .workers))) (run .shows);
     }
       where
@@ -138,7 +135,7 @@ module _ (file : List ℕ) (counts : Counts) (S₀ Wr₀ Vr₀ Lg₀ : List ℕ)
         all-shown : EndLooked (counts .fields) now n 0 (counts .workers) (endBy (staleField (counts .fields) now) n 0 (counts .workers)) → shownBy file v ≡ now
         all-shown (all-passed k _) =
             rw (says ∙ k)
-            (history-end (lateLook (counts .fields)) (end (counts .workers) (counts .fields)) (counts .workers) (counts .fields) sees file counts good sound (ready .checked) n (run .low) l)
+            (history-end course (ready .checked) n (run .low) l)
         all-shown (one-stopped u f k _) = rw (says ∙ k)
 
     module _ (l : n < counts .events) where
@@ -147,7 +144,7 @@ module _ (file : List ℕ) (counts : Counts) (S₀ Wr₀ Vr₀ Lg₀ : List ℕ)
 
       event-inside : ActsWithin (counts .workers) (counts .fields) event
       event-inside =
-          event-within (lateLook (counts .fields)) (end (counts .workers) (counts .fields)) (counts .workers) (counts .fields) sees file counts good sound n (run .so-far) l
+          event-within course n (run .so-far) l
 
       pub run-room : (e : Event) → e ≡ eventAt file n → Room (counts .fields) e S Wr Vr Lg
       run-room e q =
@@ -167,9 +164,9 @@ module _ (file : List ℕ) (counts : Counts) (S₀ Wr₀ Vr₀ Lg₀ : List ℕ)
         pub run-next : r ≡ Accepted → Running file counts S₀ Wr₀ Vr₀ Lg₀ S′ Wr′ Vr′ Lg′ (n + 1)
         run-next o =
             let later =
-            reached-next (lateLook (counts .fields)) (end (counts .workers) (counts .fields)) (counts .workers) (counts .fields) sees file counts good sound n (run .so-far) l
+            reached-next course n (run .so-far) l
             (sym says ∙ ap verdictOf o) in
-            let history = history-next (lateLook (counts .fields)) (end (counts .workers) (counts .fields)) (counts .workers) (counts .fields) sees file counts good sound n (run .so-far) l in
+            let history = history-next course n (run .so-far) l in
             running file counts S₀ Wr₀ Vr₀ Lg₀ S′ Wr′ Vr′ Lg′ (n + 1) (omega arith) (run .short) later
             (rw history
             (step-passed (counts .workers) (counts .fields) (good .few-workers) (good .few-fields) now inside n event event-inside (verdictOf r) S₀ Wr₀ Vr₀ Lg₀ S Wr Vr Lg S′ Wr′ Vr′ Lg′ (run .shows) stepped (ap verdictOf o) (rw history at (later .calm))))
@@ -178,8 +175,8 @@ module _ (file : List ℕ) (counts : Counts) (S₀ Wr₀ Vr₀ Lg₀ : List ℕ)
         run-stop m a w u f o =
             let o′ = ap verdictOf o in
             record {
-              answer = o′ ∙ sym (reached-stop (lateLook (counts .fields)) (end (counts .workers) (counts .fields)) (counts .workers) (counts .fields) sees file counts good sound n (run .so-far) l m a (w .0) (u .0) (f .0) (sym says ∙ o′));
+              answer = o′ ∙ sym (reached-stop course n (run .so-far) l m a (w .0) (u .0) (f .0) (sym says ∙ o′));
               shows =
-                  rw (history-stop (lateLook (counts .fields)) (end (counts .workers) (counts .fields)) (counts .workers) (counts .fields) sees file counts good sound n (run .so-far) l (verdictOf r) m a (w .0) (u .0) (f .0) says o′)
+                  rw (history-stop course n (run .so-far) l (verdictOf r) m a (w .0) (u .0) (f .0) says o′)
                   (step-stopped (counts .workers) (counts .fields) (good .few-workers) (good .few-fields) now inside n event event-inside (verdictOf r) S₀ Wr₀ Vr₀ Lg₀ S Wr Vr Lg S′ Wr′ Vr′ Lg′ (run .shows) stepped m a (w .0) (u .0) (f .0) o′);
             }

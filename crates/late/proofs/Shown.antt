@@ -6,6 +6,7 @@ use mathlib.Core.List.{List, [], _∷_}
 use Prim.Native.Nat.{ℕ, zero, suc, _+_, _*_, _/_, _%_, _<_, _≤_}
 use native.Mathlib.Numerals.{add-one}
 use native.Mathlib.Omega.{arith}
+use mathlib.Core.Logic.{inl}
 use lib.Dec.{eqb, ltb}
 use lib.ListN.{length, getD}
 use borrow.Author.Tests.{ltb-false}
@@ -22,6 +23,7 @@ use Rattle.events.proofs.Search.{lowest-ext}
 use Rattle.events.proofs.Histories.{ActWithin, ActsWithin, event-short, before-next, No}
 use Rattle.events.proofs.Stretches.{stretch-low}
 use Rattle.events.proofs.Words.{has-written}
+use Rattle.events.proofs.Unused.{unused-log}
 use Rattle.events.proofs.Stale.{wrote-last, stale-by-words}
 use Rattle.tables.specs.Lent.{cells, filled, Shown}
 use Rattle.tables.specs.Steps.{writerBy, stretchWith, stretchAfter, writerWith, writerAfter}
@@ -41,14 +43,6 @@ act-wider W F G l (crosses w) i = i
 wider : (W F G : ℕ) → F ≤ G → (acts : List Act) → ActsWithin W F acts → ActsWithin W G acts
 wider W F G l [] i = tt
 wider W F G l (a ∷ more) i = (act-wider W F G l a (i .0), wider W F G l more (i .1))
-
--- a field that does not exist is not logged
-unused-log : (W F : ℕ) (h : History) → ActsWithin W F h → (f w : ℕ) → F ≤ f → logWord h f w ≡ 0
-unfolding logWord
-unused-log W F [] i f w l = refl
-unused-log W F (reads u g ∷ h) i f w l = same g f (λ q _. absurd (omega arith)) (λ _ t. rw t (unused-log W F h (i .1) f w l))
-unused-log W F (writes u g ∷ h) i f w l = unused-log W F h (i .1) f w l
-unused-log W F (crosses u ∷ h) i f w l = bool (eqb u w) (λ t. rw t) (λ t. rw t (unused-log W F h (i .1) f w l))
 
 -- what no act has done, none had done before
 calm-so-far : (h : History) (e : List Act) → No OnWritten (entered h e) → No OnWritten h
@@ -134,7 +128,7 @@ module _ (W F : ℕ) (few : W ≤ 16) (fit : F ≤ 512) (S₀ Wr₀ Vr₀ Lg₀ 
         same w (k % 16)
         (λ q t.
         rw t
-        (bool (ltb (k / 16) F) (λ s. rw s) (λ s. rw (s, unused-log W F h inside (k / 16) (k % 16) (ltb-false (k / 16) F s)))))
+        (bool (ltb (k / 16) F) (λ s. rw s) (λ s. rw (s, unused-log W F h inside (k / 16) (k % 16) (inl (ltb-false (k / 16) F s))))))
         (λ _ t. rw t))
 
     -- with an act entered they show the longer history

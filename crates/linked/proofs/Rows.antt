@@ -1,5 +1,5 @@
 -- What each way through the linked functions gives.
-use mathlib.Core.Path.{_≡_, sym, _∙_}
+use mathlib.Core.Path.{_≡_}
 use mathlib.Core.List.{List, [], _∷_}
 use Prim.Native.Nat.{ℕ}
 use Rattle.sorts.specs.declared.Worker.{Worker}
@@ -9,7 +9,7 @@ use Rattle.tables.specs.declared.Answer.the-variants.{Refused, Accepted, Report
 use Rattle.tables.specs.Answers.{saidBy}
 use Rattle.early.specs.Finds as early
 use Rattle.late.specs.Finds as late
-use Rattle.linked.specs.Rows.{rowOf, earlySaid, EarlyLinked, lateSaid, LateLinked}
+use Rattle.linked.specs.Rows.{rowOf, EarlyLinked, LateLinked}
 
 module _ (answer : Answer) where
   pub row-refused : (number place : ℕ) → answer ≡ Refused number place → _≡_ {A = List ℕ} (0 ∷ number ∷ place ∷ 0 ∷ 0 ∷ 0 ∷ []) (rowOf (saidBy answer))

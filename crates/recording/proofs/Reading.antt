@@ -1,19 +1,14 @@
 -- A reader over an accepted file hands out its events in order, and then says that none is left.
 use mathlib.Core.Path.{_≡_}
 use mathlib.Core.List.{List}
-use Prim.Native.Nat.{ℕ, _+_, _*_, _<_}
+use Prim.Native.Nat.{ℕ, _+_, _<_}
 use native.Mathlib.Omega.{arith}
 use lib.ListN.{length}
 use borrow.Author.Tests.{le-leb, lt-leb}
 use Rattle.recording.specs.declared.Counts.{Counts}
 use Rattle.recording.specs.declared.Step.the-variants.{Next, End}
-use Rattle.recording.specs.Tests.{eventsAt, eventBytes}
-use Rattle.recording.specs.File.{entriesAt, entryIn, eventAt, Accepted, stepAt}
+use Rattle.recording.specs.File.{entriesAt, entryIn, eventAt, Accepted, placeOf, stepAt}
 use Rattle.recording.proofs.Guarantee.{guarantee}
-
--- the place of event n
-abbrev pub placeOf : Counts → ℕ → ℕ
-placeOf c n = eventsAt (c .workers) (c .fields) + 2 + eventBytes * n
 
 module _ (s : List ℕ) (c : Counts) (ok : Accepted s c) where
   pub reads-event : (n : ℕ) → n < c .events → stepAt s (placeOf c n) ≡ Next (eventAt s n) (placeOf c (n + 1))

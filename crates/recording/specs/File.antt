@@ -110,6 +110,10 @@ pub record Accepted (s : List ℕ) (counts : Counts) : Type 0 where
   pub fields : counts .fields ≡ fieldCount s
   pub events : counts .events ≡ eventCount s
 
+-- With these counts, the place of event n.
+abbrev pub placeOf : Counts → ℕ → ℕ
+placeOf c n = eventsAt (c .workers) (c .fields) + 2 + eventBytes * n
+
 -- A reader hands out one event at a time: the event at a place with the place of the next, or the end where no event's bytes are left.
 unfoldable pub stepAt : List ℕ → ℕ → Step
 stepAt s at = cond (leb (at + eventBytes) (length s)) (Next (eventOf (entryAt s at)) (at + eventBytes)) End

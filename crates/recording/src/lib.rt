@@ -7,7 +7,7 @@ ghost use Prim.Native.Nat.{_+_, _*_, _<_, _≤_};
 ghost use lib.ListN.{length, getD};
 ghost use Rattle.recording.specs.Tests.{rising, kindAllowed, fieldAllowed, eventTests, eventsTests, eventsAt};
 ghost use Rattle.recording.specs.Parts.{labelsAnswer, eventsAnswer, toEndAnswer};
-ghost use Rattle.recording.specs.File.{twoByte, numberAt, labelAt, entryAt, entriesAt, checked, eventOf, eventAt, workerLabel, fieldLabel, Accepted, stepAt};
+ghost use Rattle.recording.specs.File.{twoByte, numberAt, labelAt, entryAt, entriesAt, checked, eventOf, eventAt, workerLabel, fieldLabel, Accepted, placeOf, stepAt};
 
 // What a test of the file answers.
 pub enum Fault {
@@ -302,6 +302,13 @@ pub enum Step {
     Next(Event, usize),
     // There is none left.
     End,
+}
+
+// Where a reader of a file with these counts begins: the place of event 0.
+pub fn first_place(counts: Counts) -> usize
+    ensures { λ r. ⌜ r ≡ placeOf counts 0 ⌝ }
+{
+    6 + 2 * (counts.workers as usize) + 2 * (counts.fields as usize)
 }
 
 // The work of a reader, at a place of the file.

@@ -82,7 +82,7 @@ fn listed(name: &[u8], file: &[u8]) {
 
 // The same events through the reader, and what it says after the last.
 fn read_all(file: &[u8], c: Counts) {
-    let mut at = 6 + 2 * (c.workers as usize) + 2 * (c.fields as usize);
+    let mut at = recording::first_place(c);
     for _ in 0..c.events {
         match recording::read(file, c.workers, c.fields, c.events, at) {
             Step::Next(e, next) => {

@@ -1,1 +1,2 @@
+-- Laws of the sorts of number.
 pub mod Words

@@ -6,7 +6,7 @@ use native.Mathlib.Omega.{arith}
 use lib.ListN.{length, getD, drop}
 use Rattle.events.specs.declared.Event.{Event}
 use Rattle.events.specs.declared.Event.the-variants.{Read, Write, Crossing}
-use Rattle.events.specs.Acts.{Recording, actsOf, recordingOf, before, EventWithin, eventWorker}
+use Rattle.events.specs.Acts.{actsOf, recordingOf, before, EventWithin, eventWorker}
 use Rattle.events.specs.Stretches.{stretchOf}
 use Rattle.events.proofs.Histories.{Sound, recording-sound, recording-length, within-wider, event-is}
 use Rattle.events.proofs.Stretches.{stretch-low}

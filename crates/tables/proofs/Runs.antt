@@ -4,7 +4,7 @@ use mathlib.Core.List.{List, []}
 use Prim.Native.Nat.{ℕ, _+_, _<_, _≤_}
 use native.Mathlib.Numerals.{add-one}
 use native.Mathlib.Omega.{arith}
-use lib.ListN.{length, getD}
+use lib.ListN.{length}
 use Rattle.events.specs.Acts.{Act, History, actsOf, recordingOf, entered, before}
 use Rattle.events.specs.Clashes.{OnWritten, Some}
 use Rattle.events.specs.Verdicts.{Verdict, accepted, reported, firstOf, walk}
@@ -26,8 +26,13 @@ pub record Sees (look : History → ℕ → Act → Verdict) (W F : ℕ) : Type 
 abbrev pub Reached : (History → ℕ → Act → Verdict) → (History → ℕ → Verdict) → List ℕ → ℕ → Type 0
 Reached look end file n = Progress look end (recordingOf (eventsIn file)) n
 
-module _ (look : History → ℕ → Act → Verdict) (end : History → ℕ → Verdict) (W F : ℕ) (sees : Sees look W F)
-    (file : List ℕ) (counts : Counts) (good : Guarantee file counts) (sound : Sound W F (recordingOf (eventsIn file))) where
+-- a look, and what is said at the end, on the way through a file that was accepted with these counts
+pub record Course (look : History → ℕ → Act → Verdict) (end : History → ℕ → Verdict) (W F : ℕ) (file : List ℕ) (counts : Counts) : Type 0 where
+  pub sees : Sees look W F
+  pub good : Guarantee file counts
+  pub sound : Sound W F (recordingOf (eventsIn file))
+
+module _ {look : History → ℕ → Act → Verdict} {end : History → ℕ → Verdict} {W F : ℕ} {file : List ℕ} {counts : Counts} (course : Course look end W F file counts) where
   abbrev verdict : Verdict
   verdict = walk look end [] 0 (recordingOf (eventsIn file))
 
@@ -39,38 +44,38 @@ module _ (look : History → ℕ → Act → Verdict) (end : History → ℕ →
     now = before [] (recordingOf (eventsIn file)) n
 
     pub now-within : ActsWithin W F now
-    now-within = before-within W F (recordingOf (eventsIn file)) sound n
+    now-within = before-within W F (recordingOf (eventsIn file)) (course .sound) n
 
     pub reached-end : counts .events ≤ n → verdict ≡ end now n
-    reached-end l = progress-end look end W F (recordingOf (eventsIn file)) sound n so-far (omega (arith, file-length file counts good))
+    reached-end l = progress-end look end W F (recordingOf (eventsIn file)) (course .sound) n so-far (omega (arith, file-length file counts (course .good)))
 
     module _ (l : n < counts .events) where
       abbrev event : List Act
       event = actsOf (eventAt file n)
 
       below : n < length (recordingOf (eventsIn file))
-      below = omega (arith, file-length file counts good)
+      below = omega (arith, file-length file counts (course .good))
 
       pub event-within : ActsWithin W F event
-      event-within = rw (file-event file counts good n l) at (event-sound W F (recordingOf (eventsIn file)) sound n .inside)
+      event-within = rw (file-event file counts (course .good) n l) at (event-sound W F (recordingOf (eventsIn file)) (course .sound) n .inside)
 
       pub history-next : before [] (recordingOf (eventsIn file)) (n + 1) ≡ entered now event
-      history-next = rw (add-one, before-next, file-event file counts good n l)
+      history-next = rw (add-one, before-next, file-event file counts (course .good) n l)
 
       pub reached-next : firstOf (look now n) event ≡ accepted → Reached look end file (n + 1)
       reached-next q =
-          progress-next look end W F (recordingOf (eventsIn file)) sound n so-far below
-          (rw (file-event file counts good n l) q)
-          (λ s. sees .calm now now-within n event q (rw (file-event file counts good n l) at s))
+          progress-next look end W F (recordingOf (eventsIn file)) (course .sound) n so-far below
+          (rw (file-event file counts (course .good) n l) q)
+          (λ s. course .sees .calm now now-within n event q (rw (file-event file counts (course .good) n l) at s))
 
       pub reached-stop : (m s w u f : ℕ) → firstOf (look now n) event ≡ reported m s w u f → verdict ≡ reported m s w u f
       reached-stop m s w u f q =
-          progress-stop look end W F (recordingOf (eventsIn file)) sound n so-far below m s w u f (rw (file-event file counts good n l) q)
+          progress-stop look end W F (recordingOf (eventsIn file)) (course .sound) n so-far below m s w u f (rw (file-event file counts (course .good) n l) q)
 
       -- the tables that show what came before event n show what came before the reported event
       pub history-stop : (v : Verdict) (m s w u f : ℕ) → v ≡ firstOf (look now n) event → v ≡ reported m s w u f → shownBy file v ≡ now
       history-stop v m s w u f p q =
-          let k : m ≡ n = sees .number now now-within n event m s w u f (sym p ∙ q) in
+          let k : m ≡ n = course .sees .number now now-within n event m s w u f (sym p ∙ q) in
           rw (q, k)
 
   -- and before the end, all

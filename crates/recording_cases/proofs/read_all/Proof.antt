@@ -1,6 +1,6 @@
 -- `read_all` asks the reader once for each event, and once more.
-use borrow.Author.Needs.{needs}
 use Prim.Native.Nat.{_-_, _≤_}
+use borrow.Author.Needs.{needs}
 use Rattle.recording_cases.proofs.read_all.Statement.{statement}
 use Rattle.recording_cases.proofs.read_all.Tie as tie
 
@@ -10,23 +10,8 @@ Inv-loop file c at₀ t6 counter₀ end at counter = counter ≤ end
 abbrev μ-loop : tie.MeasureT-loop
 μ-loop file c at₀ t6 counter₀ end at counter = end - counter
 
-cast-at : tie.Need-cast-at Inv-loop μ-loop
-cast-at c = search needs
-
-mul-at : tie.Need-mul-at Inv-loop μ-loop
-mul-at c = search needs
-
-add-at : tie.Need-add-at Inv-loop μ-loop
-add-at c = search needs
-
-cast-at-2 : tie.Need-cast-at-2 Inv-loop μ-loop
-cast-at-2 c = search needs
-
-mul-at-2 : tie.Need-mul-at-2 Inv-loop μ-loop
-mul-at-2 c = search needs
-
-add-at-2 : tie.Need-add-at-2 Inv-loop μ-loop
-add-at-2 c = search needs
+first-place-requires : tie.Need-first-place-requires Inv-loop μ-loop
+first-place-requires c κs = search needs
 
 loop-holds : tie.Need-loop-holds Inv-loop μ-loop
 loop-holds c = search needs
@@ -82,12 +67,7 @@ read-all-spec =
     (tie.spec
     Inv-loop
     μ-loop
-    cast-at
-    mul-at
-    add-at
-    cast-at-2
-    mul-at-2
-    add-at-2
+    first-place-requires
     loop-holds
     read-requires
     enum-known-e

@@ -1,7 +1,6 @@
 -- `tables::fill` meets its contract: before word i the table is filled up to i.
 use mathlib.Core.Path.{_≡_}
 use Prim.Native.Nat.{_-_, _≤_}
-use native.Mathlib.Omega.{arith}
 use lib.ListN.{length}
 use borrow.Author.Needs.{needs}
 use Rattle.tables.specs.Lent.{filled}
