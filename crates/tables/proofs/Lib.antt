@@ -1,4 +1,5 @@
--- Laws of lent tables, and of tables that show a history: the finders cite them.
+-- Laws of lent tables, of tables that show a history, and of a finder's way through a file: the finders cite them.
+pub mod Determined
 pub mod Lent
 pub mod Laws
 pub mod Shown
