@@ -1,17 +1,19 @@
 -- Laws of text put into a buffer, and of decimal numbers.
 use mathlib.Core.Path.{_≡_, refl, sym, _∙_}
 use mathlib.Core.Bool.{Bool, true, false}
-use mathlib.Core.List.{List, [], _∷_, _++_, append-assoc}
+use mathlib.Core.List.{List, [], _∷_, _++_}
 use Prim.Native.Nat.{ℕ, zero, suc, _+_, _-_, _/_, _%_, _^_, _<_, _≤_}
 use native.Mathlib.Nat.{mod-eq-of-lt, mod-lt, one-le-pow, pow-suc, pow-le-pow-right}
 use native.Mathlib.Numerals.{add-one}
 use native.Mathlib.Omega.{arith}
 use lib.Dec.{leb}
-use lib.ListN.{length, getD, set, take, drop, length-append, length-drop, take-append-drop}
-use lib.Seq.{paste, paste-zero, paste-suc, length-take-le, take-at, drop-at, drop-append-add, drop-drop, take-all}
+use lib.ListN.{length, getD, set, take, drop, length-append, take-append-drop}
+use lib.Seq.{paste, paste-zero, paste-suc, take-at, drop-at, take-all}
 use borrow.Author.Tests.{lt-ltb, le-ltb, leb-true, leb-false}
 use Rattle.io.specs.Digits.{digits, Fewest}
-use Rattle.lines.specs.Text.{ascii, spelled, decimal, put, Puts, Starts}
+use Rattle.recording.specs.Buffer.{put}
+use Rattle.recording.proofs.Buffer.{length-put, put-put}
+use Rattle.lines.specs.Text.{ascii, spelled, decimal, Puts, Starts}
 
 -- the first i bytes of a text copied into a buffer
 unfoldable pub copied : List ℕ → ℕ → List ℕ → ℕ → List ℕ
@@ -33,24 +35,6 @@ module _ (lent : List ℕ) (at : ℕ) (text : List ℕ) where
   copied-all out i a b q =
       let z : i ≡ length text = omega arith in
       record { bytes = rw (z, take-all (length text) text (omega arith)) at q; past = refl; short = omega arith }
-
-module _ (lent : List ℕ) (at : ℕ) (a : List ℕ) (room : at + length a ≤ length lent) where
-  -- what stands before the end of the text
-  head : length (take at lent ++ a) ≡ at + length a
-  head = rw (length-append, length-take-le at lent (omega arith))
-
-  pub length-put : length (put lent at a) ≡ length lent
-  unfolding put
-  length-put = rw (length-append, head, length-drop) (omega arith)
-
-  pub put-put : (b : List ℕ) → put (put lent at a) (at + length a) b ≡ put lent at (a ++ b)
-  unfolding put
-  put-put b =
-      let rest : List ℕ = drop (at + length a) lent in
-      let two : at + length a + length b ≡ at + length (a ++ b) = rw length-append (omega arith) in
-      let after : drop (at + length a + length b) (take at lent ++ a ++ rest) ≡ drop (at + length (a ++ b)) lent =
-      rw (← head, drop-append-add, drop-drop, head, two) in
-      rw (take-at (take at lent ++ a) rest (at + length a) head, after, append-assoc (take at lent) a b)
 
 one-digit : (steps n : ℕ) → n < 10 → spelled steps n ≡ (48 + n) ∷ []
 unfolding spelled

@@ -8,6 +8,7 @@ use Prim.Native.String.{String, [] as none, _∷_ as _before_}
 use lib.Dec.{ltb}
 use lib.ListN.{length, take, drop}
 use Rattle.io.specs.Counts.{Counts}
+use Rattle.recording.specs.Buffer.{put}
 
 -- a text's characters, by their numbers
 abbrev pub ascii : String → List ℕ
@@ -34,10 +35,6 @@ rest (word ∷ more) = ascii " " ++ (word ++ rest more)
 -- a line: its first word and more, a space between, a line end after
 unfoldable pub line : List ℕ → List (List ℕ) → List ℕ
 line word more = word ++ rest more
-
--- the buffer with this text at this place, and all its other bytes as they were
-unfoldable pub put : List ℕ → ℕ → List ℕ → List ℕ
-put out at text = take at out ++ text ++ drop (at + length text) out
 
 -- The text, of at most so many bytes, stands at place at of the buffer that was lent as lent; the next place is past it.
 pub record Puts (most : ℕ) (text lent : List ℕ) (at : ℕ) (out : List ℕ) (next : ℕ) : Type 0 where

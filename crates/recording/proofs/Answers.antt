@@ -21,7 +21,7 @@ use Rattle.recording.specs.declared.Counted.{Counted}
 use Rattle.recording.specs.declared.Counted.the-variants.{Refused as Counted-refused, Count}
 use Rattle.recording.specs.declared.Step.the-variants.{Next, End}
 use Rattle.recording.specs.Tests.{need, _then_, rising, kindAllowed, fieldAllowed, eventPlace, eventTests, eventsTests, section, labelSection, eventSection, endTest, eventsToEnd, eventsAt, fileTests, allTests}
-use Rattle.recording.specs.File.{numberAt, labelAt, entryAt, entriesAt, workerCount, fieldCount, eventCount, workerLabel, fieldLabel, entryIn, contentsIn, refusal, checked, eventOf, eventAt, Accepted, stepAt}
+use Rattle.recording.specs.File.{numberAt, labelAt, entryAt, entriesAt, workerCount, fieldCount, eventCount, workerLabel, fieldLabel, entryIn, refusal, checked, eventOf, eventAt, Accepted, stepAt}
 use Rattle.recording.specs.Parts.{labelsAnswer, eventsAnswer, toEndAnswer}
 
 pub number-is : (s : List ℕ) (i low high r : ℕ) → low ≡ getD s i 0 → high ≡ getD s (i + 1) 0 → r ≡ low + 256 * high → r ≡ numberAt s i
@@ -33,19 +33,18 @@ unfolding labelAt
 label-first s at r q = let z : at + 0 ≡ at = omega arith in rw z q
 
 -- labels looked at up to label n, follow - n of them to come, which answer x
-module _ (s : List ℕ) (at number follow n : ℕ) (x : Fault) (inv : rising (labelAt s at) number at n (follow - n) ≡ x) where
+module _ (label : ℕ → ℕ) (at number follow n : ℕ) (x : Fault) (inv : rising label number at n (follow - n) ≡ x) where
   left : n < follow → follow - n ≡ suc (follow - (n + 1))
   left l = omega arith
 
-  pub labels-fall : (before label : ℕ) → n < follow → before ≡ labelAt s at n → label ≡ numberAt s (at + 2 * (n + 1)) → label ≤ before
-      → Refused number (at + 2 * (n + 1)) ≡ x
-  unfolding rising labelAt _then_ need
-  labels-fall before label l q r m = rw (left l, le-ltb (labelAt s at n) (labelAt s at (n + 1)) (omega arith)) at inv
+  pub labels-fall : (before later : ℕ) → n < follow → before ≡ label n → later ≡ label (n + 1) → later ≤ before → Refused number (at + 2 * (n + 1)) ≡ x
+  unfolding rising _then_ need
+  labels-fall before later l q r m = rw (left l, le-ltb (label n) (label (n + 1)) (omega arith)) at inv
 
-  pub labels-rise : (before label : ℕ) → n < follow → before ≡ labelAt s at n → label ≡ numberAt s (at + 2 * (n + 1)) → before < label
-      → rising (labelAt s at) number at (n + 1) (follow - (n + 1)) ≡ x
-  unfolding rising labelAt _then_ need
-  labels-rise before label l q r m = rw (left l, lt-ltb (labelAt s at n) (labelAt s at (n + 1)) (omega arith)) at inv
+  pub labels-rise : (before later : ℕ) → n < follow → before ≡ label n → later ≡ label (n + 1) → before < later
+      → rising label number at (n + 1) (follow - (n + 1)) ≡ x
+  unfolding rising _then_ need
+  labels-rise before later l q r m = rw (left l, lt-ltb (label n) (label (n + 1)) (omega arith)) at inv
 
   pub labels-end : follow ≤ n → Fine ≡ x
   unfolding rising
@@ -111,22 +110,26 @@ module _ (W F start : ℕ) (e : Entry) (k : Bool) (q : k ≡ kindAllowed (e .kin
       event-fine b = rw (← q, not-false k a, lt-ltb (e .worker) W l, ← p, not-false f b)
 
 -- events looked at before event n, count - n of them to come, which answer x
-module _ (s : List ℕ) (at W F count n : ℕ) (x : Fault) (inv : eventsTests W F (entriesAt s at) at n (count - n) ≡ x) where
+module _ (entry : ℕ → Entry) (at W F count n : ℕ) (x : Fault) (inv : eventsTests W F entry at n (count - n) ≡ x) where
   to-come : n < count → count - n ≡ suc (count - (n + 1))
   to-come l = omega arith
 
-  module _ (e : Entry) (r : Fault) (l : n < count) (q : e ≡ entryAt s (at + 4 * n)) (t : r ≡ eventTests W F e (at + 4 * n)) where
+  module _ (e : Entry) (r : Fault) (l : n < count) (q : e ≡ entry n) (t : r ≡ eventTests W F e (at + 4 * n)) where
     pub events-refused : (number place : ℕ) → r ≡ Refused number place → Refused number place ≡ x
-    unfolding eventsTests entriesAt _then_
+    unfolding eventsTests _then_
     events-refused number place k = rw (to-come l, ← q, ← t, k) at inv
 
-    pub events-next : r ≡ Fine → eventsTests W F (entriesAt s at) at (n + 1) (count - (n + 1)) ≡ x
-    unfolding eventsTests entriesAt _then_
+    pub events-next : r ≡ Fine → eventsTests W F entry at (n + 1) (count - (n + 1)) ≡ x
+    unfolding eventsTests _then_
     events-next k = rw (to-come l, ← q, ← t, k) at inv
 
   pub events-end : count ≤ n → Fine ≡ x
   unfolding eventsTests
   events-end l = let q : count - n ≡ 0 = omega arith in rw q at inv
+
+pub entry-number : (s : List ℕ) (at n : ℕ) (e : Entry) → e ≡ entryAt s (at + 4 * n) → e ≡ entriesAt s at n
+unfolding entriesAt
+entry-number s at n e q = q
 
 -- a section of labels, test by test
 module _ (s : List ℕ) (at limit range order : ℕ) where
@@ -253,20 +256,20 @@ module _ (s : List ℕ) (limit range order : ℕ) (r : Counted) (W : ℕ) where
 -- the whole file: the workers answer r, and where they are fine the fields answer r′
 module _ (s : List ℕ) (r : Counted) (q : r ≡ labelsAnswer s 0 16 2 3) where
   pub workers-refused : (number place : ℕ) → r ≡ Counted-refused number place → Checked-refused number place ≡ checked s
-  unfolding checked refusal allTests fileTests contentsIn workerCount workerLabel _then_ need
+  unfolding checked refusal allTests fileTests workerCount workerLabel _then_ need
   workers-refused number place k = rw (section-is-refused s 0 16 2 3 r q number place k)
 
   module _ (W : ℕ) (k : r ≡ Count W) where
     module _ (r′ : Counted) (q′ : r′ ≡ labelsAnswer s (2 + 2 * W) 512 4 5) where
       pub fields-refused : (number place : ℕ) → r′ ≡ Counted-refused number place → Checked-refused number place ≡ checked s
-      unfolding checked refusal allTests fileTests contentsIn workerCount workerLabel fieldCount fieldLabel _then_ need
+      unfolding checked refusal allTests fileTests workerCount workerLabel fieldCount fieldLabel _then_ need
       fields-refused number place k′ =
           let a = section-is-fine s 0 16 2 3 r q W k in
           rw (a .0, a .1, section-is-refused s (2 + 2 * W) 512 4 5 r′ q′ number place k′)
 
       module _ (F : ℕ) (k′ : r′ ≡ Count F) where
         pub events-answer : (a : Checked) → a ≡ toEndAnswer s W F → a ≡ checked s
-        unfolding checked refusal allTests fileTests contentsIn workerCount workerLabel fieldCount fieldLabel eventCount entryIn toEndAnswer _then_ need
+        unfolding checked refusal allTests fileTests workerCount workerLabel fieldCount fieldLabel eventCount entryIn toEndAnswer _then_ need
         events-answer a t =
             let b = section-is-fine s 0 16 2 3 r q W k in
             let c = section-is-fine s (2 + 2 * W) 512 4 5 r′ q′ F k′ in

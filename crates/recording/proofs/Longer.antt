@@ -12,25 +12,11 @@ use Rattle.recording.specs.declared.Fault.{Fault}
 use Rattle.recording.specs.declared.Fault.the-variants.{Fine, Refused}
 use Rattle.recording.specs.declared.Entry.{Entry}
 use Rattle.recording.specs.Tests.{need, _then_, rising, eventsTests, section, labelSection, eventSection, endTest, eventsToEnd, fieldsAt, eventsAt, fileSize, fileTests, allTests}
-use Rattle.recording.specs.File.{numberAt, labelAt, entryAt, entriesAt, workerCount, fieldCount, eventCount, workerLabel, fieldLabel, entryIn, contentsIn, refusal, countsIn, answered, checked}
-use Rattle.recording.proofs.Tests.{need-fine, section-passed, labels-good, and-both}
+use Rattle.recording.specs.File.{numberAt, labelAt, entryAt, entriesAt, workerCount, fieldCount, eventCount, workerLabel, fieldLabel, entryIn, refusal, countsIn, answered, checked}
+use Rattle.recording.proofs.Tests.{need-fine, then-same, section-same, section-passed, labels-good, and-both}
 use Rattle.recording.proofs.WellFormed.{fine-well-formed}
 
--- two lists of tests that answer the same
-then-same : (a a′ b b′ : Fault) → a ≡ a′ → (a ≡ Fine → b ≡ b′) → (a then b) ≡ (a′ then b′)
-unfolding _then_
-then-same Fine a′ b b′ p q = rw (← p) (q refl)
-then-same (Refused number place) a′ b b′ p q = rw (← p)
-
-section-same : (size size′ at bytes : ℕ) (range items items′ : Fault) → at + 2 ≤ size → at + 2 ≤ size′
-    → (range ≡ Fine → (at + 2 + bytes ≤ size) × (at + 2 + bytes ≤ size′) × (items ≡ items′))
-    → section size at range bytes items ≡ section size′ at range bytes items′
-unfolding section _then_ need
-section-same size size′ at bytes range items items′ l l′ q =
-    rw (le-leb (at + 2) size l, le-leb (at + 2) size′ l′)
-    (then-same range range _ _ refl
-    (λ fine. let p = q fine in rw (le-leb (at + 2 + bytes) size (p .0), le-leb (at + 2 + bytes) size′ (p .1)) (p .2)))
-
+-- labels or events that agree answer the same
 rising-same : (label label′ : ℕ → ℕ) (number at n k : ℕ) → ((j : ℕ) → j ≤ n + k → label j ≡ label′ j) → rising label number at n k ≡ rising label′ number at n k
 unfolding rising
 rising-same label label′ number at n zero same = refl
@@ -84,7 +70,7 @@ module _ (s t : List ℕ) (long : 65062 < length s) (long′ : 65062 < length t)
       rw (lt-leb (length s) end (omega arith), lt-leb (length t) end (omega arith))))
 
   pub same-refusal : (tables : Bool) → refusal tables s ≡ refusal tables t
-  unfolding refusal allTests fileTests contentsIn workerCount fieldCount eventCount workerLabel fieldLabel entryIn
+  unfolding refusal allTests fileTests workerCount fieldCount eventCount workerLabel fieldLabel entryIn
   same-refusal tables =
       let W = number-same 0 (omega arith) in
       then-same (need tables 11 0) _ _ _ refl

@@ -59,6 +59,16 @@ pub fine-then : (a b : Fault) → a ≡ Fine → b ≡ Fine → (a then b) ≡ F
 unfolding _then_
 fine-then a b p q = rw p q
 
+-- a test that passes, before or after the others
+pub fine-first : (a b : Fault) → a ≡ Fine → (a then b) ≡ b
+unfolding _then_
+fine-first a b p = rw p
+
+pub then-done : (a b : Fault) → b ≡ Fine → (a then b) ≡ a
+unfolding _then_
+then-done Fine b p = p
+then-done (Refused number place) b p = refl
+
 pub passed-section : (size at : ℕ) (range : Fault) (bytes : ℕ) (items : Fault) → Passed size at range bytes items → section size at range bytes items ≡ Fine
 unfolding section
 passed-section size at range bytes items p =
@@ -123,3 +133,18 @@ module _ (size at count : ℕ) (label : ℕ → ℕ) (limit range order : ℕ) w
         room = g .room;
         items-fine = fine-rising label order (at + 2) 0 (count - 1) (λ n l m. g .rise n (omega arith));
       })
+
+-- two lists of tests that answer the same
+pub then-same : (a a′ b b′ : Fault) → a ≡ a′ → (a ≡ Fine → b ≡ b′) → (a then b) ≡ (a′ then b′)
+unfolding _then_
+then-same Fine a′ b b′ p q = rw (← p) (q refl)
+then-same (Refused number place) a′ b b′ p q = rw (← p)
+
+pub section-same : (size size′ at bytes : ℕ) (range items items′ : Fault) → at + 2 ≤ size → at + 2 ≤ size′
+    → (range ≡ Fine → (at + 2 + bytes ≤ size) × (at + 2 + bytes ≤ size′) × (items ≡ items′))
+    → section size at range bytes items ≡ section size′ at range bytes items′
+unfolding section _then_ need
+section-same size size′ at bytes range items items′ l l′ q =
+    rw (le-leb (at + 2) size l, le-leb (at + 2) size′ l′)
+    (then-same range range _ _ refl
+    (λ fine. let p = q fine in rw (le-leb (at + 2 + bytes) size (p .0), le-leb (at + 2 + bytes) size′ (p .1)) (p .2)))

@@ -1,4 +1,4 @@
--- The tests pass exactly on the well-formed files.
+-- The tests pass exactly on the well-formed recordings.
 use mathlib.Core.Path.{_≡_, refl}
 use mathlib.Core.Bool.{Bool, true, false, cond, _||_}
 use mathlib.Core.List.{List}
@@ -9,9 +9,9 @@ use lib.ListN.{length}
 use borrow.Author.Tests.{lt-ltb, le-leb, leb-true, ltb-true, eqb-true}
 use Rattle.recording.specs.declared.Fault.the-variants.{Fine}
 use Rattle.recording.specs.declared.Entry.{Entry}
-use Rattle.recording.specs.Tests.{need, _then_, kindAllowed, fieldAllowed, eventTests, eventsTests, section, labelSection, eventSection, endTest, eventsToEnd, fieldsAt, eventsAt, fileSize, fileTests, allTests}
-use Rattle.recording.specs.File.{workerCount, fieldCount, eventCount, workerLabel, fieldLabel, entryIn, contentsIn, refusal}
-use Rattle.recording.specs.WellFormed.{Good, WellFormed}
+use Rattle.recording.specs.Tests.{need, _then_, kindAllowed, fieldAllowed, eventTests, eventsTests, section, labelSection, eventSection, endTest, eventsToEnd, fieldsAt, eventsAt, fileSize, Contents, fileTests, allTests}
+use Rattle.recording.specs.File.{contentsIn, refusal}
+use Rattle.recording.specs.WellFormed.{Good, Formed, WellFormed}
 use Rattle.recording.specs.WellFormed.Good.{read, write, crossing}
 use Rattle.recording.proofs.Tests.{need-fine, fine-need, then-fine, fine-then, first-or-later, section-passed, passed-section, labels-good, good-labels}
 
@@ -60,20 +60,19 @@ module _ (W F : ℕ) (entry : ℕ → Entry) (at : ℕ) where
       fine-then _ _ (good-event W F (entry n) (at + 4 * n) (all n (omega arith) (omega arith)))
       (good-events (n + 1) k (λ j l m. all j (omega arith) (omega arith)))
 
--- the whole file
-module _ (s : List ℕ) where
-  pub fine-well-formed : (tables : Bool) → refusal tables s ≡ Fine → WellFormed s
-  unfolding refusal allTests fileTests eventsToEnd eventSection endTest contentsIn
-  fine-well-formed tables t =
-      let a = then-fine (need tables 11 0) _ t in
-      let b = then-fine (labelSection (length s) 0 (workerCount s) (workerLabel s) 16 2 3) _ (a .1) in
-      let workers = labels-good (length s) 0 (workerCount s) (workerLabel s) 16 2 3 (b .0) in
-      let c = then-fine (labelSection (length s) (fieldsAt (workerCount s)) (fieldCount s) (fieldLabel s) 512 4 5) _ (b .1) in
-      let fields = labels-good (length s) (fieldsAt (workerCount s)) (fieldCount s) (fieldLabel s) 512 4 5 (c .0) in
-      let d = then-fine (section (length s) (eventsAt (workerCount s) (fieldCount s)) _ _ _) _ (c .1) in
-      let p = section-passed _ _ _ _ _ (d .0) in
-      let few = leb-true (eventCount s) 16000 (need-fine _ _ _ (p .range-fine)) in
-      let end = leb-true (length s) (fileSize (workerCount s) (fieldCount s) (eventCount s)) (need-fine _ _ _ (d .1)) in
+-- the whole recording, of a file that has or would have so many bytes
+module _ (bytes : ℕ) (c : Contents) where
+  pub fine-formed : fileTests bytes c ≡ Fine → Formed bytes c
+  unfolding fileTests eventsToEnd eventSection endTest
+  fine-formed t =
+      let b = then-fine (labelSection bytes 0 (c .workers) (c .workerLabel) 16 2 3) _ t in
+      let workers = labels-good bytes 0 (c .workers) (c .workerLabel) 16 2 3 (b .0) in
+      let d = then-fine (labelSection bytes (fieldsAt (c .workers)) (c .fields) (c .fieldLabel) 512 4 5) _ (b .1) in
+      let fields = labels-good bytes (fieldsAt (c .workers)) (c .fields) (c .fieldLabel) 512 4 5 (d .0) in
+      let e = then-fine (section bytes (eventsAt (c .workers) (c .fields)) _ _ _) _ (d .1) in
+      let p = section-passed _ _ _ _ _ (e .0) in
+      let few = leb-true (c .events) 16000 (need-fine _ _ _ (p .range-fine)) in
+      let end = leb-true bytes (fileSize (c .workers) (c .fields) (c .events)) (need-fine _ _ _ (e .1)) in
       let room = p .room in
       record {
         some-worker = workers .some;
@@ -83,26 +82,35 @@ module _ (s : List ℕ) where
         few-fields = fields .few;
         fields-rise = fields .rise;
         few-events = few;
-        events-good = λ n l. events-good (workerCount s) (fieldCount s) (entryIn s) _ 0 (eventCount s) (p .items-fine) n (omega arith) (omega arith);
+        events-good = λ n l. events-good (c .workers) (c .fields) (c .entry) _ 0 (c .events) (p .items-fine) n (omega arith) (omega arith);
         size = omega arith;
       }
 
-  pub well-formed-fine : WellFormed s → refusal true s ≡ Fine
-  unfolding refusal allTests fileTests eventsToEnd eventSection endTest contentsIn
-  well-formed-fine g =
-      let size = g .size in
-      fine-then _ _ (fine-need true 11 0 refl)
-      (fine-then _ _
-      (good-labels (length s) 0 (workerCount s) (workerLabel s) 16 2 3
+  pub formed-fine : Formed bytes c → fileTests bytes c ≡ Fine
+  unfolding fileTests eventsToEnd eventSection endTest
+  formed-fine g =
+      let exact = g .size in
+      fine-then _ _
+      (good-labels bytes 0 (c .workers) (c .workerLabel) 16 2 3
       (record { some = g .some-worker; few = g .few-workers; room = omega arith; rise = g .workers-rise }))
       (fine-then _ _
-      (good-labels (length s) (fieldsAt (workerCount s)) (fieldCount s) (fieldLabel s) 512 4 5
+      (good-labels bytes (fieldsAt (c .workers)) (c .fields) (c .fieldLabel) 512 4 5
       (record { some = g .some-field; few = g .few-fields; room = omega arith; rise = g .fields-rise }))
       (fine-then _ _
-      (passed-section (length s) (eventsAt (workerCount s) (fieldCount s)) _ _ _
+      (passed-section bytes (eventsAt (c .workers) (c .fields)) _ _ _
       (record {
-        range-fine = fine-need _ _ _ (le-leb (eventCount s) 16000 (g .few-events));
+        range-fine = fine-need _ _ _ (le-leb (c .events) 16000 (g .few-events));
         room = omega arith;
-        items-fine = good-events (workerCount s) (fieldCount s) (entryIn s) _ 0 (eventCount s) (λ n _ l. g .events-good n (omega arith));
+        items-fine = good-events (c .workers) (c .fields) (c .entry) _ 0 (c .events) (λ n _ l. g .events-good n (omega arith));
       }))
-      (fine-need _ _ _ (le-leb (length s) (fileSize (workerCount s) (fieldCount s) (eventCount s)) (omega arith))))))
+      (fine-need _ _ _ (le-leb bytes (fileSize (c .workers) (c .fields) (c .events)) (omega arith)))))
+
+-- a file that is read
+module _ (s : List ℕ) where
+  pub fine-well-formed : (tables : Bool) → refusal tables s ≡ Fine → WellFormed s
+  unfolding refusal allTests
+  fine-well-formed tables t = fine-formed (length s) (contentsIn s) (then-fine (need tables 11 0) _ t .1)
+
+  pub well-formed-fine : WellFormed s → refusal true s ≡ Fine
+  unfolding refusal allTests
+  well-formed-fine g = fine-then _ _ (fine-need true 11 0 refl) (formed-fine (length s) (contentsIn s) g)

@@ -77,7 +77,7 @@ unfoldable pub eventsIn : List ℕ → List Event
 eventsIn s = eventsFrom s 0 (eventCount s)
 
 -- Three sections in a fixed order, each after its count.
-unfoldable pub contentsIn : List ℕ → Contents
+abbrev pub contentsIn : List ℕ → Contents
 contentsIn s =
     record {
       workers = workerCount s;

@@ -2,4 +2,6 @@
 pub mod Tests
 pub mod File
 pub mod WellFormed
+pub mod Buffer
+pub mod Writing
 pub mod Parts

@@ -37,7 +37,7 @@ number-at-requires-2 : tie.Need-number-at-requires-2 Inv-loop μ-loop
 number-at-requires-2 c κs = search needs
 
 returns : tie.Need-returns Inv-loop μ-loop
-returns c = search labels-fall
+returns c = search (labels-fall, label-next)
 
 add-n : tie.Need-add-n Inv-loop μ-loop
 add-n c = search needs
@@ -46,7 +46,7 @@ loop-less : tie.Need-loop-less Inv-loop μ-loop
 loop-less c = search needs
 
 loop-again : tie.Need-loop-again Inv-loop μ-loop
-loop-again c = (search needs, search needs, search label-next, search labels-rise)
+loop-again c = (search needs, search needs, search label-next, search (labels-rise, label-next))
 
 returns-2 : tie.Need-returns-2 Inv-loop μ-loop
 returns-2 c = search labels-end

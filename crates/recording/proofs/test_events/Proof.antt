@@ -6,7 +6,7 @@ use native.Mathlib.Nat.{sub-zero}
 use lib.ListN.{length}
 use Rattle.recording.specs.Tests.{eventsTests}
 use Rattle.recording.specs.File.{entriesAt}
-use Rattle.recording.proofs.Answers.{events-refused, events-next, events-end}
+use Rattle.recording.proofs.Answers.{entry-number, events-refused, events-next, events-end}
 use Rattle.recording.proofs.test_events.Statement.{statement}
 use Rattle.recording.proofs.test_events.Tie as tie
 
@@ -37,7 +37,7 @@ enum-known-number : tie.Need-enum-known-number Inv-loop μ-loop
 enum-known-number c = search needs
 
 returns : tie.Need-returns Inv-loop μ-loop
-returns c = search events-refused
+returns c = search (events-refused, entry-number)
 
 enum-told : tie.Need-enum-told Inv-loop μ-loop
 enum-told c = search needs
@@ -49,7 +49,7 @@ loop-less : tie.Need-loop-less Inv-loop μ-loop
 loop-less c = search needs
 
 loop-again : tie.Need-loop-again Inv-loop μ-loop
-loop-again c = (search needs, search needs, search events-next)
+loop-again c = (search needs, search needs, search (events-next, entry-number))
 
 returns-2 : tie.Need-returns-2 Inv-loop μ-loop
 returns-2 c = search events-end
