@@ -1,6 +1,7 @@
 // The tests of a recording to be written, over the rows that the writer is given: the tests of the file that they would make.
 use crate::Entry;
 use crate::Fault;
+use crate::event::test_event;
 use events::Event;
 use sorts::Field;
 use sorts::Worker;
@@ -100,7 +101,7 @@ fn test_events(
             worker: workers[n],
             field: fields[n],
         };
-        if let Fault::Refused(number, place) = crate::test_event(
+        if let Fault::Refused(number, place) = test_event(
             e,
             worker_count,
             field_count,

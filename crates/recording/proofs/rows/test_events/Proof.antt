@@ -10,7 +10,6 @@ use Rattle.recording.proofs.Answers.{events-refused, events-next, event
 use Rattle.recording.proofs.RowTests.{entry-of}
 use Rattle.recording.proofs.rows.test_events.Statement.{statement}
 use Rattle.recording.proofs.rows.test_events.Tie as tie
-use Rattle.recording.proofs.test_event.Reads as test-event-reads
 
 abbrev Inv-loop : tie.InvT-loop
 Inv-loop kinds workers fields at count worker-count field-count n₀ n = (n ≤ count) × (count ≤ length kinds) × (count ≤ length workers) × (count ≤ length fields) × (count ≤ 16000) × (at ≤ 2000) × (eventsTests worker-count field-count (entryOf kinds workers fields) at n (count - n) ≡ eventsTests worker-count field-count (entryOf kinds workers fields) at 0 count)

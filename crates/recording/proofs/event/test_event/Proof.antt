@@ -1,8 +1,8 @@
 -- `test_event` answers as the tests within an event do: one law for each way out.
 use Rattle.recording.proofs.Answers.{kind-refused, worker-refused, field-refused, event-fine}
 use borrow.Author.Needs.{needs}
-use Rattle.recording.proofs.test_event.Statement.{statement}
-use Rattle.recording.proofs.test_event.Tie as tie
+use Rattle.recording.proofs.event.test_event.Statement.{statement}
+use Rattle.recording.proofs.event.test_event.Tie as tie
 
 kind-allowed-requires : tie.Need-kind-allowed-requires
 kind-allowed-requires c κs = search needs

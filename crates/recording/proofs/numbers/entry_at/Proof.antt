@@ -1,8 +1,8 @@
 -- `entry_at` reads the three numbers of an event.
 use Rattle.recording.proofs.Answers.{entry-is}
 use borrow.Author.Needs.{needs}
-use Rattle.recording.proofs.entry_at.Statement.{statement}
-use Rattle.recording.proofs.entry_at.Tie as tie
+use Rattle.recording.proofs.numbers.entry_at.Statement.{statement}
+use Rattle.recording.proofs.numbers.entry_at.Tie as tie
 
 shared-slice-read-wide : tie.Need-shared-slice-read-wide
 shared-slice-read-wide c = search needs

@@ -1,8 +1,8 @@
 -- `event_section` answers as the section of events does: one law for each way out.
 use Rattle.recording.proofs.Answers.{events-short, events-over, events-cut, event-refused, events-fine}
 use borrow.Author.Needs.{needs}
-use Rattle.recording.proofs.event_section.Statement.{statement}
-use Rattle.recording.proofs.event_section.Tie as tie
+use Rattle.recording.proofs.sections.event_section.Statement.{statement}
+use Rattle.recording.proofs.sections.event_section.Tie as tie
 
 sub-if1 : tie.Need-sub-if1
 sub-if1 c = search needs

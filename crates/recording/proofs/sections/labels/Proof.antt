@@ -7,8 +7,8 @@ use lib.ListN.{length}
 use Rattle.recording.specs.Tests.{rising}
 use Rattle.recording.specs.File.{labelAt}
 use Rattle.recording.proofs.Answers.{label-first, label-next, labels-fall, labels-rise, labels-end}
-use Rattle.recording.proofs.labels.Statement.{statement}
-use Rattle.recording.proofs.labels.Tie as tie
+use Rattle.recording.proofs.sections.labels.Statement.{statement}
+use Rattle.recording.proofs.sections.labels.Tie as tie
 
 abbrev Inv-loop : tie.InvT-loop
 Inv-loop file at follow number before₀ n₀ before n =

@@ -7,8 +7,8 @@ use lib.ListN.{length}
 use Rattle.recording.specs.Tests.{eventsTests}
 use Rattle.recording.specs.File.{entriesAt}
 use Rattle.recording.proofs.Answers.{entry-number, events-refused, events-next, events-end}
-use Rattle.recording.proofs.test_events.Statement.{statement}
-use Rattle.recording.proofs.test_events.Tie as tie
+use Rattle.recording.proofs.sections.test_events.Statement.{statement}
+use Rattle.recording.proofs.sections.test_events.Tie as tie
 
 abbrev Inv-loop : tie.InvT-loop
 Inv-loop file at count workers fields n₀ n =

@@ -1,8 +1,8 @@
 -- `check_events` answers as the events and the end of the file do: one law for each way out.
 use Rattle.recording.proofs.Answers.{to-end-refused, bytes-after, to-end-fine}
 use borrow.Author.Needs.{needs}
-use Rattle.recording.proofs.check_events.Statement.{statement}
-use Rattle.recording.proofs.check_events.Tie as tie
+use Rattle.recording.proofs.sections.check_events.Statement.{statement}
+use Rattle.recording.proofs.sections.check_events.Tie as tie
 
 mul-at : tie.Need-mul-at
 mul-at c = search needs

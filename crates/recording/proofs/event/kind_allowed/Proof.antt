@@ -1,7 +1,7 @@
 -- `kind_allowed` tells the kinds that a file may have.
 use Rattle.recording.proofs.Answers.{kind-read, kind-write, kind-other}
-use Rattle.recording.proofs.kind_allowed.Statement.{statement}
-use Rattle.recording.proofs.kind_allowed.Tie as tie
+use Rattle.recording.proofs.event.kind_allowed.Statement.{statement}
+use Rattle.recording.proofs.event.kind_allowed.Tie as tie
 
 returns : tie.Need-returns
 returns c = search kind-read

@@ -1,8 +1,8 @@
 -- `label_section` answers as a section of labels does: one law for each way out.
 use Rattle.recording.proofs.Answers.{section-short, section-zero, section-over, section-cut, section-order, section-fine}
 use borrow.Author.Needs.{needs}
-use Rattle.recording.proofs.label_section.Statement.{statement}
-use Rattle.recording.proofs.label_section.Tie as tie
+use Rattle.recording.proofs.sections.label_section.Statement.{statement}
+use Rattle.recording.proofs.sections.label_section.Tie as tie
 
 sub-if1 : tie.Need-sub-if1
 sub-if1 c = search needs

@@ -1,8 +1,8 @@
 -- `number_at` reads a two-byte number.
 use Rattle.recording.proofs.Answers.{number-is}
 use borrow.Author.Needs.{needs}
-use Rattle.recording.proofs.number_at.Statement.{statement}
-use Rattle.recording.proofs.number_at.Tie as tie
+use Rattle.recording.proofs.numbers.number_at.Statement.{statement}
+use Rattle.recording.proofs.numbers.number_at.Tie as tie
 
 shared-slice-read-two-byte : tie.Need-shared-slice-read-two-byte
 shared-slice-read-two-byte c = search needs

@@ -1,8 +1,8 @@
 -- `any_number_at` reads a two-byte number at any place.
 use Rattle.recording.proofs.Answers.{number-is}
 use borrow.Author.Needs.{needs}
-use Rattle.recording.proofs.any_number_at.Statement.{statement}
-use Rattle.recording.proofs.any_number_at.Tie as tie
+use Rattle.recording.proofs.numbers.any_number_at.Statement.{statement}
+use Rattle.recording.proofs.numbers.any_number_at.Tie as tie
 
 byte-at-requires : tie.Need-byte-at-requires
 byte-at-requires c κs = search needs

@@ -1,7 +1,7 @@
 -- `field_allowed` tells the field numbers that an event of a kind may have.
 use Rattle.recording.proofs.Answers.{field-crossing, field-access}
-use Rattle.recording.proofs.field_allowed.Statement.{statement}
-use Rattle.recording.proofs.field_allowed.Tie as tie
+use Rattle.recording.proofs.event.field_allowed.Statement.{statement}
+use Rattle.recording.proofs.event.field_allowed.Tie as tie
 
 returns : tie.Need-returns
 returns c = search field-crossing

@@ -1,8 +1,8 @@
 -- `byte_at` reads a byte, and 0 past the end.
 use Rattle.recording.proofs.Answers.{byte-past}
 use borrow.Author.Needs.{needs}
-use Rattle.recording.proofs.byte_at.Statement.{statement}
-use Rattle.recording.proofs.byte_at.Tie as tie
+use Rattle.recording.proofs.numbers.byte_at.Statement.{statement}
+use Rattle.recording.proofs.numbers.byte_at.Tie as tie
 
 shared-slice-read-result : tie.Need-shared-slice-read-result
 shared-slice-read-result c = search needs
