@@ -1,8 +1,12 @@
--- The finders' answers as rows of six numbers, for a program in another language.
+-- The answers of the finders and of the writer as rows of six numbers, for a program in another language.
 use mathlib.Core.Path.{_≡_}
 use mathlib.Core.List.{List, [], _∷_}
 use Prim.Native.Nat.{ℕ}
+use lib.ListN.{length}
 use Rattle.events.specs.Verdicts.{accepted, reported}
+use Rattle.recording.specs.declared.Written.{Written}
+use Rattle.recording.specs.declared.Written.the-variants.{Refused, Bytes}
+use Rattle.recording.specs.Writing.{Rows, contentsOf, writeTests, fileOf, wrote, Writes}
 use Rattle.tables.specs.Answers.{Said, refused, judged}
 use Rattle.tables.specs.Finds.{said}
 use Rattle.early.specs.Finds as early
@@ -31,3 +35,17 @@ module _ (file S₀ Wr₀ Vr₀ Lg₀ : List ℕ) where
   pub record LateLinked (S Wr Vr Lg row : List ℕ) : Type 0 where
     pub row-is : row ≡ rowOf lateSaid
     pub finds : late.Finds file S₀ Wr₀ Vr₀ Lg₀ lateSaid S Wr Vr Lg
+
+-- 0 and the refusal's number and place; 1 and how many bytes were written; zeros fill the row
+abbrev pub writtenRow : Written → List ℕ
+writtenRow (Refused number place) = 0 ∷ number ∷ place ∷ 0 ∷ 0 ∷ 0 ∷ []
+writtenRow (Bytes n) = 1 ∷ n ∷ 0 ∷ 0 ∷ 0 ∷ 0 ∷ []
+
+-- the row and the buffer are those of the writer's answer
+module _ (r : Rows) (lent : List ℕ) where
+  abbrev pub writeSaid : Written
+  writeSaid = wrote (writeTests (length lent) r) (fileOf (contentsOf r))
+
+  pub record WriteLinked (buffer row : List ℕ) : Type 0 where
+    pub row-is : row ≡ writtenRow writeSaid
+    pub writes : Writes r lent writeSaid buffer

@@ -1,7 +1,9 @@
-// The library as a Rust or C program links it: the finders on plain slices, their answers as rows of six numbers.
+// The library as a Rust or C program links it: the finders and the writer on plain slices, their answers as rows of six numbers.
 ghost use mathlib.Core.Path.{_≡_};
 ghost use Rattle.tables.specs.Answers.{saidBy};
-ghost use Rattle.linked.specs.Rows.{rowOf, EarlyLinked, LateLinked};
+ghost use Rattle.recording.specs.Writing.{rowsGiven};
+ghost use Rattle.linked.specs.Rows.{rowOf, writtenRow, EarlyLinked, LateLinked, WriteLinked};
+use recording::Written;
 use tables::Answer;
 
 // What is answered, and then: number and place; nothing; or event, sort, worker, other worker and field.
@@ -10,6 +12,9 @@ const REFUSED: u64 = 0;
 const ACCEPTED: u64 = 1;
 
 const REPORTED: u64 = 2;
+
+// The writer's: how many bytes.
+const WRITTEN: u64 = 1;
 
 fn put_row(answer: Answer, row: &mut [u64; 6])
     ensures { λ _. ⌜ now (row .exit) ≡ rowOf (saidBy answer) ⌝ }
@@ -61,4 +66,33 @@ pub extern "C" fn bankmurmur_late(
 {
     let answer = late::find(file, stretch, writer, version, log);
     put_row(answer, row);
+}
+
+fn put_written(answer: Written, row: &mut [u64; 6])
+    ensures { λ _. ⌜ now (row .exit) ≡ writtenRow answer ⌝ }
+{
+    match answer {
+        Written::Refused(number, place) => {
+            *row = [REFUSED, number as u64, place as u64, 0, 0, 0];
+        }
+        Written::Bytes(n) => {
+            *row = [WRITTEN, n as u64, 0, 0, 0, 0];
+        }
+    }
+}
+
+#[no_mangle]
+pub extern "C" fn bankmurmur_write(
+    worker_labels: &[u32],
+    field_labels: &[u32],
+    kinds: &[u32],
+    workers: &[u32],
+    fields: &[u32],
+    buffer: &mut [u8],
+    row: &mut [u64; 6],
+)
+    ensures { λ _. ⌜ WriteLinked (rowsGiven (now («worker_labels» .entry)) (now («field_labels» .entry)) (now (kinds .entry)) (now (workers .entry)) (now (fields .entry))) (now (buffer .entry)) (now (buffer .exit)) (now (row .exit)) ⌝ }
+{
+    let answer = recording::write(worker_labels, field_labels, kinds, workers, fields, buffer);
+    put_written(answer, row);
 }
