@@ -7,10 +7,10 @@ use Rattle.stream.proofs.serve_all.Statement.{statement}
 use Rattle.stream.proofs.serve_all.Tie as tie
 
 abbrev Inv-loop : tie.InvT-loop
-Inv-loop file₀ out₀ counter₀ file out counter = (counter ≤ 1000000000) × (length file ≡ length file₀) × (length out ≡ length out₀)
+Inv-loop space₀ out₀ counter₀ space out counter = (counter ≤ 1000000000) × (length space ≡ length space₀) × (length out ≡ length out₀)
 
 abbrev μ-loop : tie.MeasureT-loop
-μ-loop file₀ out₀ counter₀ file out counter = 1000000000 - counter
+μ-loop space₀ out₀ counter₀ space out counter = 1000000000 - counter
 
 loop-holds : tie.Need-loop-holds Inv-loop μ-loop
 loop-holds c = search needs

@@ -1,34 +1,28 @@
--- `stream::put_noise` stays within the table, which keeps its length.
+-- `stream::writing::put_noise` stays within the buffer, which keeps its length.
 use Prim.Native.Nat.{_-_, _≤_}
 use mathlib.Core.Path.{_≡_}
 use lib.ListN.{length}
 use borrow.Author.Needs.{needs}
-use Rattle.stream.proofs.put_noise.Statement.{statement}
-use Rattle.stream.proofs.put_noise.Tie as tie
+use Rattle.stream.proofs.writing.put_noise.Statement.{statement}
+use Rattle.stream.proofs.writing.put_noise.Tie as tie
 
 abbrev Inv-loop : tie.InvT-loop
-Inv-loop table₀ n noise i₀ table i = (i ≤ n) × (n ≤ length table₀) × (length table ≡ length table₀)
+Inv-loop buffer₀ n noise i₀ buffer i = (i ≤ n) × (n ≤ length buffer₀) × (noise ≤ 1000000) × (length buffer ≡ length buffer₀)
 
 abbrev μ-loop : tie.MeasureT-loop
-μ-loop table₀ n noise i₀ table i = n - i
+μ-loop buffer₀ n noise i₀ buffer i = n - i
 
 loop-holds : tie.Need-loop-holds Inv-loop μ-loop
 loop-holds c = search needs
 
-cast-k : tie.Need-cast-k Inv-loop μ-loop
-cast-k c = search needs
+add-buffer : tie.Need-add-buffer Inv-loop μ-loop
+add-buffer c = search needs
 
-add-table : tie.Need-add-table Inv-loop μ-loop
-add-table c = search needs
+cast-buffer : tie.Need-cast-buffer Inv-loop μ-loop
+cast-buffer c = search needs
 
-add-table-2 : tie.Need-add-table-2 Inv-loop μ-loop
-add-table-2 c = search needs
-
-mul-table : tie.Need-mul-table Inv-loop μ-loop
-mul-table c = search needs
-
-slice-write-table : tie.Need-slice-write-table Inv-loop μ-loop
-slice-write-table c = search needs
+slice-write-buffer : tie.Need-slice-write-buffer Inv-loop μ-loop
+slice-write-buffer c = search needs
 
 add-i : tie.Need-add-i Inv-loop μ-loop
 add-i c = search needs
@@ -52,11 +46,9 @@ put-noise-spec =
     Inv-loop
     μ-loop
     loop-holds
-    cast-k
-    add-table
-    add-table-2
-    mul-table
-    slice-write-table
+    add-buffer
+    cast-buffer
+    slice-write-buffer
     add-i
     loop-less
     loop-again

@@ -1,16 +1,16 @@
--- `stream::put_table` stays within the table, and the space keeps its length.
+-- `stream::wire::put_numbers` stays within the row, and the space keeps its length.
 use Prim.Native.Nat.{_-_, _≤_}
 use mathlib.Core.Path.{_≡_}
 use lib.ListN.{length}
 use borrow.Author.Needs.{needs}
-use Rattle.stream.proofs.put_table.Statement.{statement}
-use Rattle.stream.proofs.put_table.Tie as tie
+use Rattle.stream.proofs.wire.put_numbers.Statement.{statement}
+use Rattle.stream.proofs.wire.put_numbers.Tie as tie
 
 abbrev Inv-loop : tie.InvT-loop
-Inv-loop out₀ at table next₀ i₀ i-end out next i = (i ≤ i-end) × (i-end ≡ length table) × (length out ≡ length out₀)
+Inv-loop out₀ at row next₀ i₀ i-end out next i = (i ≤ i-end) × (i-end ≡ length row) × (length out ≡ length out₀)
 
 abbrev μ-loop : tie.MeasureT-loop
-μ-loop out₀ at table next₀ i₀ i-end out next i = i-end - i
+μ-loop out₀ at row next₀ i₀ i-end out next i = i-end - i
 
 loop-holds : tie.Need-loop-holds Inv-loop μ-loop
 loop-holds c = search needs
@@ -39,8 +39,8 @@ same-length c = search needs
 returns : tie.Need-returns Inv-loop μ-loop
 returns c = search needs
 
-pub put-table-spec : {M : Type 1} → statement M
-put-table-spec =
+pub put-numbers-spec : {M : Type 1} → statement M
+put-numbers-spec =
     tie.close
     (tie.spec
     Inv-loop

@@ -1,9 +1,9 @@
--- `stream::put` writes four bytes within the space: stores keep its length.
+-- `stream::wire::put` writes four bytes within the space: stores keep its length.
 use native.Mathlib.Omega.{arith}
 use lib.ListN.{length-set}
 use borrow.Author.Needs.{needs}
-use Rattle.stream.proofs.put.Statement.{statement}
-use Rattle.stream.proofs.put.Tie as tie
+use Rattle.stream.proofs.wire.put.Statement.{statement}
+use Rattle.stream.proofs.wire.put.Tie as tie
 
 returns : tie.Need-returns
 returns c = search needs
