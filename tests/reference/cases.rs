@@ -1,15 +1,27 @@
-//! The cases of tests/cases: files with the text that must be printed for them, taken from the document by hand.
+//! The cases of tests/cases: files with the text that must be printed for them, and rows with the writer's answer, by hand.
 
 use crate::file;
 use crate::notation;
+use crate::writing::Rows;
 
 const SEQUENCES: &str = include_str!("../cases/sequences.txt");
 const FILE_EDGES: &str = include_str!("../cases/file-edges.txt");
+const WRITINGS: &str = include_str!("../cases/writings.txt");
 
 pub struct Case {
     pub name: String,
     pub file: Vec<u8>,
     pub expected: String,
+}
+
+/// Rows for the writer, with what it must answer.
+pub struct Writing {
+    pub name: String,
+    pub rows: Rows,
+    pub buffer: usize,
+    pub expected: String,
+    /// What the buffer must begin with, where the rows are written.
+    pub file: Option<Vec<u8>>,
 }
 
 /// The sequences first, then the edges of the file form.
@@ -19,13 +31,21 @@ pub fn all() -> Result<Vec<Case>, String> {
     Ok(cases)
 }
 
-/// Cases are separated by empty lines; lines that start with # are for the reader.
+pub fn writings() -> Result<Vec<Writing>, String> {
+    blocks(WRITINGS, writing_of)
+}
+
 fn cases_of(text: &str) -> Result<Vec<Case>, String> {
+    blocks(text, case_of)
+}
+
+/// Cases are separated by empty lines; lines that start with # are for the reader.
+fn blocks<T>(text: &str, of: impl Fn(&[&str]) -> Result<T, String>) -> Result<Vec<T>, String> {
     let lines: Vec<&str> = text.lines().filter(|line| !line.starts_with('#')).collect();
     lines
         .split(|line| line.is_empty())
         .filter(|lines| !lines.is_empty())
-        .map(case_of)
+        .map(of)
         .collect()
 }
 
@@ -46,6 +66,57 @@ fn case_of(lines: &[&str]) -> Result<Case, String> {
         file,
         expected,
     })
+}
+
+/// `case NAME`, the five rows and the length of the buffer, the answer, and if it is `written` also the `bytes`.
+fn writing_of(lines: &[&str]) -> Result<Writing, String> {
+    let name = part(lines, 0, "case")?.to_string();
+    let in_case = |problem: String| format!("case {name}: {problem}");
+    let row = |line, word| row(part(lines, line, word)?);
+    let rows = || {
+        Ok(Rows {
+            worker_labels: row(1, "worker-labels")?,
+            field_labels: row(2, "field-labels")?,
+            kinds: row(3, "kinds")?,
+            workers: row(4, "workers")?,
+            fields: row(5, "fields")?,
+        })
+    };
+    let expected = lines.get(7).ok_or("there is no answer".to_string());
+    let expected = expected.map_err(in_case)?.to_string();
+    let file = match expected.starts_with("written") {
+        true => Some(part(lines, 8, "bytes").and_then(bytes).map_err(in_case)?),
+        false => None,
+    };
+    Ok(Writing {
+        rows: rows().map_err(in_case)?,
+        buffer: part(lines, 6, "buffer")
+            .and_then(decimal)
+            .map_err(in_case)?,
+        expected,
+        file,
+        name,
+    })
+}
+
+fn row(entries: &str) -> Result<Vec<u32>, String> {
+    let entries: Vec<Vec<u32>> = entries
+        .split_whitespace()
+        .map(entry)
+        .collect::<Result<_, _>>()?;
+    Ok(entries.concat())
+}
+
+/// `7` is an entry of a row; `labels:3` are the entries 0, 1 and 2; `5*1` five entries.
+fn entry(text: &str) -> Result<Vec<u32>, String> {
+    let number = |text: &str| text.parse().map_err(|_| format!("'{text}' is no entry"));
+    if let Some(count) = text.strip_prefix("labels:") {
+        return Ok((0..number(count)?).collect());
+    }
+    match text.split_once('*') {
+        Some((times, entry)) => Ok(vec![number(entry)?; number(times)? as usize]),
+        None => Ok(vec![number(text)?]),
+    }
 }
 
 fn sequence(lines: &[&str]) -> Result<Vec<u8>, String> {
@@ -108,6 +179,8 @@ fn hexadecimal(text: &str) -> Result<Vec<u8>, String> {
 mod tests {
     use super::*;
     use crate::printed::printed;
+    use crate::writing::{self, Written};
+    use std::collections::BTreeSet;
 
     #[test]
     fn the_reference_prints_what_every_case_expects() {
@@ -131,5 +204,29 @@ mod tests {
                 "case {name}"
             );
         }
+    }
+
+    #[test]
+    fn the_reference_writes_what_every_case_expects() {
+        for case in writings().expect("the case files are good") {
+            let mut buffer = vec![0xEE; case.buffer];
+            let answer = match writing::write(&case.rows, &mut buffer) {
+                Written::Refused(refused) => {
+                    format!("refused {} {}", refused.number, refused.place)
+                }
+                Written::Bytes(bytes) => format!("written {bytes}"),
+            };
+            assert_eq!(answer, case.expected, "case {}", case.name);
+            let mut expected = case.file.unwrap_or_default();
+            expected.resize(case.buffer, 0xEE);
+            assert_eq!(buffer, expected, "case {}", case.name);
+        }
+    }
+
+    #[test]
+    fn no_two_writings_have_one_name() {
+        let writings = writings().expect("the case files are good");
+        let names: BTreeSet<&String> = writings.iter().map(|case| &case.name).collect();
+        assert_eq!(names.len(), writings.len());
     }
 }

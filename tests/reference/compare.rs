@@ -1,4 +1,4 @@
-//! Runs a subject over a stream of requests and compares its answers, places and every word of every table.
+//! Runs a subject over a stream of requests and compares its answers, places and every word and byte that it was lent.
 
 use std::collections::BTreeMap;
 use std::io::{BufReader, Read, Write};
@@ -9,20 +9,84 @@ use std::thread;
 use crate::file;
 use crate::finders::Answer;
 use crate::notation;
-use crate::stream::{self, Origin, Plan, Request, Response};
+use crate::stream::{self, Origin, Plan};
 use crate::verdict::{Report, NOT_RECORDED};
+use crate::wire::Part;
+use crate::writing::Written;
+use crate::writings;
 
 /// A file length that no file has ends the stream.
 const END_OF_STREAM: u32 = u32::MAX;
 /// So many requests may be under way.
 const UNDER_WAY: usize = 64;
-const ANSWER_NUMBERS: [&str; 6] = [
-    "kind", "number 1", "number 2", "number 3", "number 4", "number 5",
-];
+const WRITER: &str = "writer";
+const WRITTEN: &str = "written";
+
+/// What a subject is asked: the finders on a file, or the writer on rows.
+pub enum Request {
+    Finders(stream::Request),
+    Writer(writings::Request),
+}
+
+/// What it must answer, and which outcome that is of whom.
+pub struct Expected {
+    parts: Vec<Part>,
+    outcomes: Vec<(&'static str, String)>,
+}
+
+/// The writings first: they are the quicker ones.
+pub fn requests(plan: Plan) -> Result<impl Iterator<Item = Request>, String> {
+    let writings = writings::requests(plan)?.map(Request::Writer);
+    Ok(writings.chain(stream::requests(plan)?.map(Request::Finders)))
+}
+
+impl Request {
+    fn origin(&self) -> Origin {
+        match self {
+            Request::Finders(request) => request.origin,
+            Request::Writer(request) => request.origin,
+        }
+    }
+
+    fn bytes(&self) -> Vec<u8> {
+        match self {
+            Request::Finders(request) => request.bytes(),
+            Request::Writer(request) => request.bytes(),
+        }
+    }
+
+    pub fn expected(&self) -> Expected {
+        match self {
+            Request::Finders(request) => {
+                let response = request.expected();
+                let recording = file::read(&request.file);
+                let events = recording.map_or(0, |recording| recording.events.len());
+                Expected {
+                    parts: response.parts(),
+                    outcomes: vec![
+                        ("early", outcome(response.early, events)),
+                        ("late", outcome(response.late, events)),
+                    ],
+                }
+            }
+            Request::Writer(request) => {
+                let response = request.expected();
+                let outcome = match response.answer {
+                    Written::Refused(refused) => refused_with(refused.number),
+                    Written::Bytes(_) => WRITTEN.to_string(),
+                };
+                Expected {
+                    parts: response.parts(),
+                    outcomes: vec![(WRITER, outcome)],
+                }
+            }
+        }
+    }
+}
 
 /// Compares the subject on the whole plan; the error tells the first difference.
 pub fn compare(plan: Plan, command: &[String]) -> Result<Tally, String> {
-    let requests = stream::requests(plan)?;
+    let requests = requests(plan)?;
     let mut subject = start(command)?;
     let input = subject.stdin.take().ok_or("the subject has no input")?;
     let output = subject.stdout.take().ok_or("the subject has no output")?;
@@ -43,6 +107,7 @@ pub fn compare(plan: Plan, command: &[String]) -> Result<Tally, String> {
             "the subject answered everything, but ended with {status}"
         ));
     }
+    tally.every_outcome_of_a_writing()?;
     Ok(tally)
 }
 
@@ -78,12 +143,19 @@ fn compare_all(requests: Receiver<Request>, mut output: impl Read) -> Result<Tal
     let mut tally = Tally::default();
     for request in requests {
         let expected = request.expected();
-        if let Err(trouble) = compare_one(&request, &expected.words(), &mut output) {
-            return Err(format!(
-                "request {}: {trouble}\n{}",
-                tally.compared,
-                describe(&request)
-            ));
+        if let Err(trouble) = compare_one(&expected.parts, &mut output) {
+            return Err(match &request {
+                Request::Finders(request) => {
+                    format!("request {}: {trouble}\n{}", tally.files, describe(request))
+                }
+                Request::Writer(request) => {
+                    format!(
+                        "writing {}: {trouble}\n{}",
+                        request.name,
+                        request.describe()
+                    )
+                }
+            });
         }
         tally.count(&request, &expected);
     }
@@ -93,53 +165,19 @@ fn compare_all(requests: Receiver<Request>, mut output: impl Read) -> Result<Tal
     }
 }
 
-fn compare_one(request: &Request, expected: &[u32], output: &mut impl Read) -> Result<(), String> {
-    let mut bytes = vec![0; 4 * expected.len()];
-    let read = output.read_exact(&mut bytes);
-    read.map_err(|error| format!("the subject's response cannot be read: {error}"))?;
-    let got = bytes
-        .chunks_exact(4)
-        .map(|word| u32::from_le_bytes([word[0], word[1], word[2], word[3]]));
-    let difference = got
-        .zip(expected)
-        .enumerate()
-        .find(|(_, (got, expected))| got != *expected);
-    match difference {
-        None => Ok(()),
-        Some((word, (got, expected))) => {
-            let place = place_in_response(request, word);
-            Err(format!("{place} is {got} but should be {expected}"))
+fn compare_one(expected: &[Part], output: &mut impl Read) -> Result<(), String> {
+    for part in expected {
+        let mut received = vec![0; part.bytes.len()];
+        let read = output.read_exact(&mut received);
+        read.map_err(|error| format!("{} cannot be read: {error}", part.name))?;
+        if let Some(difference) = part.difference(&received) {
+            return Err(difference);
         }
     }
+    Ok(())
 }
 
-/// Names a word of the response: part of an answer, or a word of a table.
-fn place_in_response(request: &Request, word: usize) -> String {
-    let mut parts = vec![("early answer".to_string(), ANSWER_NUMBERS.len())];
-    for (n, table) in stream::lent_tables().enumerate() {
-        if n == 3 {
-            parts.push(("late answer".to_string(), ANSWER_NUMBERS.len()));
-        }
-        let finder = if n < 3 { "early" } else { "late" };
-        parts.push((
-            format!("{finder} {table:?}").to_lowercase(),
-            request.lengths[n],
-        ));
-    }
-    let mut left = word;
-    for (name, length) in parts {
-        if left < length && name.ends_with("answer") {
-            return format!("{name}, {}", ANSWER_NUMBERS[left]);
-        }
-        if left < length {
-            return format!("{name} word {left}");
-        }
-        left -= length;
-    }
-    format!("word {word}")
-}
-
-fn describe(request: &Request) -> String {
+fn describe(request: &stream::Request) -> String {
     let what = match file::read(&request.file) {
         Ok(recording) => notation::text(&recording),
         Err(refused) => {
@@ -165,24 +203,54 @@ fn describe(request: &Request) -> String {
 /// How many requests were compared, and how often each outcome was expected.
 #[derive(Default)]
 pub struct Tally {
-    pub compared: usize,
+    pub files: usize,
+    pub writings: usize,
     outcomes: BTreeMap<(Origin, &'static str), BTreeMap<String, usize>>,
 }
 
 impl Tally {
-    pub fn count(&mut self, request: &Request, expected: &Response) {
-        self.compared += 1;
-        let events = file::read(&request.file).map_or(0, |recording| recording.events.len());
-        for (finder, answer) in [("early", expected.early), ("late", expected.late)] {
-            let outcomes = self.outcomes.entry((request.origin, finder)).or_default();
-            *outcomes.entry(outcome(answer, events)).or_default() += 1;
+    pub fn count(&mut self, request: &Request, expected: &Expected) {
+        match request {
+            Request::Finders(_) => self.files += 1,
+            Request::Writer(_) => self.writings += 1,
+        }
+        for (who, outcome) in &expected.outcomes {
+            let outcomes = self.outcomes.entry((request.origin(), who)).or_default();
+            *outcomes.entry(outcome.clone()).or_default() += 1;
+        }
+    }
+
+    /// So many of the writings had this outcome.
+    fn writings_with(&self, outcome: &str) -> usize {
+        let of_writer = self.outcomes.iter().filter(|((_, who), _)| *who == WRITER);
+        of_writer
+            .filter_map(|(_, outcomes)| outcomes.get(outcome))
+            .sum()
+    }
+
+    /// What was written was read back and written again.
+    pub fn there_and_back(&self) -> usize {
+        self.writings_with(WRITTEN)
+    }
+
+    /// A comparison that left out a number of the writer would say nothing of it.
+    fn every_outcome_of_a_writing(&self) -> Result<(), String> {
+        let refusals = (1..=9).chain([12]).map(refused_with);
+        let mut outcomes = refusals.chain([WRITTEN.to_string()]);
+        match outcomes.find(|outcome| self.writings_with(outcome) == 0) {
+            None => Ok(()),
+            Some(missing) => Err(format!("'{missing}' never came up among the writings")),
         }
     }
 }
 
+fn refused_with(number: u32) -> String {
+    format!("refused {number:02}")
+}
+
 fn outcome(answer: Answer, events: usize) -> String {
     match answer {
-        Answer::Refused(refused) => format!("refused {:02}", refused.number),
+        Answer::Refused(refused) => refused_with(refused.number),
         Answer::Accepted => "accepted".to_string(),
         Answer::Reported(Report {
             event,
@@ -199,9 +267,10 @@ fn outcome(answer: Answer, events: usize) -> String {
 
 impl std::fmt::Display for Tally {
     fn fmt(&self, f: &mut std::fmt::Formatter) -> std::fmt::Result {
-        for ((origin, finder), outcomes) in &self.outcomes {
+        for ((origin, who), outcomes) in &self.outcomes {
             let all: usize = outcomes.values().sum();
-            writeln!(f, "{origin:?}, {finder}, {all} files")?;
+            let what = if *who == WRITER { "writings" } else { "files" };
+            writeln!(f, "{origin:?}, {who}, {all} {what}")?;
             for (outcome, &count) in outcomes {
                 writeln!(
                     f,
@@ -211,5 +280,50 @@ impl std::fmt::Display for Tally {
             }
         }
         Ok(())
+    }
+}
+
+#[cfg(test)]
+mod tests {
+    use super::*;
+
+    fn tally(plan: Plan) -> Tally {
+        let mut tally = Tally::default();
+        for request in requests(plan).expect("the case files are good") {
+            tally.count(&request, &request.expected());
+        }
+        tally
+    }
+
+    #[test]
+    fn the_cases_alone_bring_up_every_outcome_of_a_writing() {
+        let mut tally = tally(Plan {
+            seed: 1,
+            count: 0,
+            depth: 0,
+        });
+        assert_eq!(tally.every_outcome_of_a_writing(), Ok(()));
+        assert!(tally.there_and_back() > 0 && tally.there_and_back() < tally.writings);
+        for outcomes in tally.outcomes.values_mut() {
+            outcomes.remove("refused 05");
+        }
+        assert!(tally.every_outcome_of_a_writing().is_err());
+    }
+
+    #[test]
+    fn a_response_that_differs_is_told_by_its_part() {
+        let parts = [
+            Part::numbers("answer", &[1, 2]),
+            Part::bytes("buffer", vec![3]),
+        ];
+        let same: &[u8] = &[1, 0, 0, 0, 2, 0, 0, 0, 3];
+        assert_eq!(compare_one(&parts, &mut { same }), Ok(()));
+        let other: &[u8] = &[1, 0, 0, 0, 2, 0, 0, 0, 4];
+        let told = compare_one(&parts, &mut { other }).expect_err("the buffer differs");
+        assert_eq!(told, "buffer, number 0, is 4 but should be 3");
+        // The second part is not awaited where the first differs.
+        let refused: &[u8] = &[0, 0, 0, 0, 7, 0, 0, 0];
+        let told = compare_one(&parts, &mut { refused }).expect_err("the answer differs");
+        assert_eq!(told, "answer, number 0, is 0 but should be 1");
     }
 }

@@ -13,3 +13,6 @@ pub mod run;
 pub mod stream;
 pub mod tables;
 pub mod verdict;
+pub mod wire;
+pub mod writing;
+pub mod writings;

@@ -23,9 +23,9 @@ answer   prints what the program must print
 cases    runs the program on the cases of tests/cases
 sample   runs the program on N random and damaged files (200 if not given)
 compare  holds a subject beside the reference: the cases, all recordings of up to about D events (5 if not given),
-         N random and damaged files (20000 if not given)
+         N random and damaged files (20000 if not given), and as many random and damaged writings
 shares   tells how often each outcome comes up in what compare would run
-pick     writes the file of request K of what compare would run";
+pick     writes file K of what compare would run";
 
 fn main() -> ExitCode {
     let arguments: Vec<String> = std::env::args().skip(1).collect();
@@ -161,13 +161,18 @@ fn compare(options: &Options) -> Result<(), String> {
     let plan = options.plan();
     tell_seed(plan)?;
     let tally = compare::compare(plan, &options.run)?;
-    let compared = tally.compared;
-    write_out(format!("{tally}{compared} files compared, all equal\n").as_bytes())
+    let summary = format!(
+        "{tally}{} files compared, all equal\n{} writings compared, {} of them there and back, all equal\n",
+        tally.files,
+        tally.writings,
+        tally.there_and_back()
+    );
+    write_out(summary.as_bytes())
 }
 
 fn shares(options: &Options) -> Result<(), String> {
     let mut tally = Tally::default();
-    for request in stream::requests(options.plan())? {
+    for request in compare::requests(options.plan())? {
         tally.count(&request, &request.expected());
     }
     write_out(tally.to_string().as_bytes())
@@ -178,6 +183,6 @@ fn pick(options: &Options) -> Result<(), String> {
     let wanted: usize = number(wanted)?;
     let request = stream::requests(options.plan())?
         .nth(wanted)
-        .ok_or(format!("there is no request {wanted}"))?;
+        .ok_or(format!("there is no file {wanted}"))?;
     write_out(&request.file)
 }

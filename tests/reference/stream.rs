@@ -6,6 +6,7 @@ use crate::finders::{self, Answer};
 use crate::generate::{self, Shape};
 use crate::random::Random;
 use crate::tables::{Table, EARLY, LATE};
+use crate::wire::{number_bytes, Part};
 
 /// How the stream is chosen: the same plan gives the same stream.
 #[derive(Clone, Copy)]
@@ -58,12 +59,9 @@ fn full_lengths() -> [usize; 7] {
 impl Request {
     /// All numbers are 32 bits, low byte first: file length, noise, seven table lengths, then the file.
     pub fn bytes(&self) -> Vec<u8> {
-        let numbers = [self.file.len(), self.noise]
-            .into_iter()
-            .chain(self.lengths);
-        let mut bytes: Vec<u8> = numbers
-            .flat_map(|number| (number as u32).to_le_bytes())
-            .collect();
+        let mut numbers = vec![self.file.len() as u32, self.noise as u32];
+        numbers.extend(self.lengths.map(|length| length as u32));
+        let mut bytes = number_bytes(&numbers);
         bytes.extend(&self.file);
         bytes
     }
@@ -93,17 +91,23 @@ impl Request {
 
 impl Response {
     /// For each finder the answer's six numbers, then every word of its tables.
-    pub fn words(&self) -> Vec<u32> {
-        let mut words = Vec::new();
-        for (answer, tables) in [
-            (self.early, &self.early_tables),
-            (self.late, &self.late_tables),
-        ] {
-            words.extend(answer_numbers(answer));
-            words.extend(tables.concat());
-        }
-        words
+    pub fn parts(&self) -> Vec<Part> {
+        let mut parts = vec![Part::numbers("early answer", &answer_numbers(self.early))];
+        parts.extend(table_parts("early", &EARLY, &self.early_tables));
+        parts.push(Part::numbers("late answer", &answer_numbers(self.late)));
+        parts.extend(table_parts("late", &LATE, &self.late_tables));
+        parts
     }
+}
+
+fn table_parts<'a>(
+    finder: &'a str,
+    tables: &'a [Table],
+    words: &'a [Vec<u32>],
+) -> impl Iterator<Item = Part> + 'a {
+    let name = move |table: &Table| format!("{finder} {table:?}").to_lowercase();
+    let part = move |(table, words): (&Table, &Vec<u32>)| Part::numbers(&name(table), words);
+    tables.iter().zip(words).map(part)
 }
 
 fn answer_numbers(answer: Answer) -> [u32; 6] {
