@@ -3,6 +3,9 @@
 use reference::file::{self, Kind, Recording};
 use reference::generate::{self, Care, Shape};
 use reference::random::Random;
+use reference::writing::{Rows, Written};
+
+use crate::proved;
 
 const SEED: u64 = 16_000;
 
@@ -35,12 +38,20 @@ fn input(name: &'static str, workers: usize, crossings: usize) -> Input {
         care_ends: file::MOST_EVENTS,
     };
     let recording = generate::recording(&shape, &mut Random::new(SEED));
-    let file = file::write(&recording);
+    let file = written(&Rows::of(&recording));
     Input {
         name,
         recording,
         file,
     }
+}
+
+/// The file of these rows, by the proved writer.
+fn written(rows: &Rows) -> Vec<u8> {
+    let mut file = vec![0; rows.file_length()];
+    let answer = proved::write(rows, &mut file);
+    assert_eq!(answer, Written::Bytes(file.len()));
+    file
 }
 
 impl Input {

@@ -155,6 +155,7 @@ mod tests {
     use super::*;
     use reference::finders::Answer as Expected;
     use reference::stream::{self, Plan};
+    use reference::{file, writing, writings};
 
     fn of_reference(answer: Expected) -> Answer {
         match answer {
@@ -220,8 +221,27 @@ mod tests {
     }
 
     #[test]
+    fn the_linked_writer_answers_as_the_reference() {
+        let plan = Plan {
+            seed: 1,
+            count: 3000,
+            depth: 0,
+        };
+        for request in writings::requests(plan).expect("the case files are good") {
+            let mut buffer = vec![5; request.buffer];
+            let mut expected = buffer.clone();
+            assert_eq!(
+                proved::write(&request.rows, &mut buffer),
+                writing::write(&request.rows, &mut expected)
+            );
+            assert_eq!(buffer, expected);
+        }
+    }
+
+    #[test]
     fn both_verdicts_accept_every_input() {
         for input in inputs::all() {
+            assert_eq!(input.file, file::write(&input.recording));
             assert_eq!(input.recording.events.len(), 16_000);
             for mut pair in pairs() {
                 assert_eq!((pair.proved)(&input.file), Answer::Accepted);

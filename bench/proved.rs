@@ -1,6 +1,8 @@
-//! The proved finders, linked from the static library of the crate `linked`.
+//! The proved finders and the proved writer, linked from the static library of the crate `linked`.
 
 use crate::baseline::Answer;
+use reference::file::Refused;
+use reference::writing::{Rows, Written};
 
 // A slice passes as a pointer and a length, the row as a pointer. Nothing checks these lines against the library's source:
 // crates/linked/src/lib.rt has the signatures.
@@ -27,6 +29,21 @@ extern "C" {
         version_length: usize,
         log: *mut u32,
         log_length: usize,
+        row: *mut [u64; 6],
+    );
+    fn bankmurmur_write(
+        worker_labels: *const u32,
+        worker_labels_length: usize,
+        field_labels: *const u32,
+        field_labels_length: usize,
+        kinds: *const u32,
+        kinds_length: usize,
+        workers: *const u32,
+        workers_length: usize,
+        fields: *const u32,
+        fields_length: usize,
+        buffer: *mut u8,
+        buffer_length: usize,
         row: *mut [u64; 6],
     );
 }
@@ -92,4 +109,33 @@ pub fn late(
         );
     }
     of_row(row)
+}
+
+pub fn write(rows: &Rows, buffer: &mut [u8]) -> Written {
+    let mut row = [0; 6];
+    // As above.
+    unsafe {
+        bankmurmur_write(
+            rows.worker_labels.as_ptr(),
+            rows.worker_labels.len(),
+            rows.field_labels.as_ptr(),
+            rows.field_labels.len(),
+            rows.kinds.as_ptr(),
+            rows.kinds.len(),
+            rows.workers.as_ptr(),
+            rows.workers.len(),
+            rows.fields.as_ptr(),
+            rows.fields.len(),
+            buffer.as_mut_ptr(),
+            buffer.len(),
+            &mut row,
+        );
+    }
+    match row[0] {
+        0 => Written::Refused(Refused {
+            number: row[1] as u32,
+            place: row[2] as usize,
+        }),
+        _ => Written::Bytes(row[1] as usize),
+    }
 }
