@@ -1,0 +1,37 @@
+-- What reading standard input leaves in the buffer, and what the program makes of a text.
+use mathlib.Core.Path.{_≡_}
+use mathlib.Core.List.{List}
+use Prim.Native.Nat.{ℕ}
+use lib.ListN.{length}
+use Rattle.io.specs.Counts.{Counts}
+use Rattle.notation.specs.declared.Input.{Input}
+use Rattle.notation.specs.declared.Input.the-variants.{Bytes, Failed}
+use Rattle.notation.specs.declared.Made.{Made}
+use Rattle.notation.specs.declared.Made.the-variants.{Bad, Refused, File}
+use Rattle.recording.specs.declared.Written.{Written}
+use Rattle.recording.specs.declared.Written.the-variants.{Refused as Written-refused, Bytes as Written-bytes}
+use Rattle.recording.specs.Writing.{contentsOf, writeTests, fileOf, wrote, left}
+use Rattle.spelling.specs.Notation.{Said, bad, rows}
+
+-- so many bytes stand at the start of the buffer
+abbrev pub ReadInto : List ℕ → Input → Type 0
+ReadInto buffer (Bytes n) = Counts n buffer
+ReadInto buffer Failed = Unit {0}
+
+-- what the writer answers
+abbrev pub madeBy : Written → Made
+madeBy (Written-refused number place) = Refused number place
+madeBy (Written-bytes n) = File n
+
+-- Bad notation gives the place of the first bad word and changes no byte; rows are the writer's to refuse or to write.
+abbrev pub madeOf : Said → List ℕ → Made
+madeOf (bad place) lent = Bad place
+madeOf (rows r) lent = madeBy (wrote (writeTests (length lent) r) (fileOf (contentsOf r)))
+
+abbrev pub leftOf : Said → List ℕ → List ℕ
+leftOf (bad place) lent = lent
+leftOf (rows r) lent = left (writeTests (length lent) r) (fileOf (contentsOf r)) lent
+
+pub record Makes (says : Said) (lent buffer : List ℕ) (r : Made) : Type 0 where
+  pub answers : r ≡ madeOf says lent
+  pub bytes : buffer ≡ leftOf says lent
