@@ -1,6 +1,6 @@
 -- The notation of document 01 as text: its words, what number or event a word is, and what a whole text says.
 use mathlib.Core.Bool.{Bool, true, false, cond, _&&_, _||_}
-use mathlib.Core.List.{List, [], _∷_, _++_}
+use mathlib.Core.List.{List, [], _∷_}
 use Prim.Native.Nat.{ℕ, zero, suc, _+_, _-_, _*_}
 use Prim.Native.Char.{code}
 use Prim.Native.String.{String, [] as none, _∷_ as _before_}
@@ -94,6 +94,7 @@ wordUnder heading word =
 unfoldable pub blankAt : List ℕ → ℕ → Bool
 blankAt text i = leb (length text) i || isBlank (getD text i 0)
 
+-- the heading that stands after a word (`NoWord` is the code's, where no word ends)
 abbrev pub headingAfter : Heading → Word → Heading
 headingAfter heading (Opens next) = next
 headingAfter heading NoWord = heading
@@ -107,7 +108,8 @@ pub record Placed : Type 0 where
   pub place : ℕ
   pub word : Word
 
--- The words that end at the next so many places from i on: the text stands under a heading, and a word that ends before byte i began at start.
+-- The words from byte i on, where so many places are left to look at, the present heading is known, and bytes start to i - 1 are the
+-- word that has begun, if any. At a blank it ends; any other byte belongs to it.
 unfoldable pub wordsFrom : List ℕ → Heading → ℕ → ℕ → ℕ → List Placed
 wordsFrom text heading start i zero = []
 wordsFrom text heading start i (suc left) =
@@ -117,7 +119,7 @@ wordsFrom text heading start i (suc left) =
     (record { place = start; word = word } ∷ more)
     (wordsFrom text heading (cond (blankAt text i) (i + 1) start) (i + 1) left)
 
--- the words of a text
+-- the words of a text; the last place to look at is its end
 unfoldable pub words : List ℕ → List Placed
 words text = wordsFrom text Before 0 0 (length text + 1)
 
