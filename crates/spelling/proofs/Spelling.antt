@@ -1,23 +1,21 @@
 -- Laws of words: what the loops over a word's bytes have come to, and what the tests of a word lead to.
 use mathlib.Core.Path.{_≡_, refl, sym}
-use mathlib.Core.Bool.{Bool, true, false, cond, _&&_, _||_, and-false, or-true}
+use mathlib.Core.Bool.{Bool, true, false, cond, and-false}
 use mathlib.Core.List.{List, [], _∷_}
-use Prim.Native.Nat.{ℕ, zero, suc, _+_, _-_, _*_, _^_, _<_, _≤_}
+use Prim.Native.Nat.{ℕ, _+_, _-_, _*_, _^_, _<_, _≤_}
 use native.Mathlib.Nat.{sub-zero, pow-suc, pow-le-pow-right}
 use native.Mathlib.Numerals.{add-one}
 use native.Mathlib.Omega.{arith}
-use lib.Dec.{eqb, ltb, leb}
+use lib.Dec.{eqb, ltb}
 use lib.ListN.{length, getD, take, drop, length-drop, drop-of-length-le}
 use lib.Seq.{drop-cons, take-all}
 use borrow.Author.Tests.{lt-ltb, le-ltb, le-leb, lt-leb, eq-eqb, ne-eqb}
-use Rattle.events.proofs.Tests.{bool}
-use Rattle.recording.specs.declared.Entry.{Entry}
 use Rattle.spelling.specs.declared.Number.{Number}
 use Rattle.spelling.specs.declared.Number.the-variants.{Of, Missing}
 use Rattle.spelling.specs.declared.Heading.{Heading}
 use Rattle.spelling.specs.declared.Heading.the-variants.{Before, Workers, Fields, Events}
 use Rattle.spelling.specs.declared.Word.{Word}
-use Rattle.spelling.specs.declared.Word.the-variants.{NoWord, Opens, WorkerLabel, FieldLabel, Event, Bad}
+use Rattle.spelling.specs.declared.Word.the-variants.{Opens, WorkerLabel, FieldLabel, Event, Bad}
 use Rattle.spelling.specs.Notation.{ascii, same, numberAfter, numberOf, dotIn, eventBy, accessOf, eventOf, entryUnder, wordUnder}
 
 -- the rest of a word from byte i on

@@ -12,7 +12,6 @@ use Rattle.spelling.specs.declared.Heading.{Heading}
 use Rattle.spelling.specs.declared.Word.{Word}
 use Rattle.spelling.specs.declared.Word.the-variants.{NoWord}
 use Rattle.spelling.specs.declared.Step.{Step}
-use Rattle.spelling.specs.declared.Lengths.{Lengths}
 use Rattle.spelling.specs.declared.Notation.{Notation}
 use Rattle.spelling.specs.declared.Notation.the-variants.{Bad, Rows}
 use Rattle.spelling.specs.Notation.{wordUnder, blankAt, headingAfter, Said, bad, rows, said}
