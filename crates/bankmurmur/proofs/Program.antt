@@ -1,11 +1,11 @@
 -- The lines that are formed for a file are what is printed for it, and input past the buffer changes nothing.
-use mathlib.Core.Path.{_≡_, refl, sym}
+use mathlib.Core.Path.{_≡_, refl}
 use mathlib.Core.Bool.{true}
 use mathlib.Core.List.{List}
-use Prim.Native.Nat.{ℕ, _≤_}
+use Prim.Native.Nat.{ℕ}
 use native.Mathlib.Omega.{arith}
-use lib.ListN.{length, take}
-use lib.Seq.{take-all, length-take-le}
+use lib.ListN.{take}
+use lib.Seq.{take-all}
 use Rattle.events.specs.Verdicts.{earlyVerdict, lateVerdict}
 use Rattle.recording.specs.declared.Fault.{Fault}
 use Rattle.recording.specs.declared.Fault.the-variants.{Fine, Refused}
@@ -21,9 +21,6 @@ use Rattle.tables.specs.Answers.{saidBy}
 use Rattle.tables.specs.Finds.{said}
 use Rattle.lines.specs.Text.{Starts}
 use Rattle.lines.specs.Lines.{refusedLine, reportLines, printedAfter, printed}
-use Rattle.bankmurmur.specs.declared.Input.{Input}
-use Rattle.bankmurmur.specs.declared.Input.the-variants.{Bytes}
-use Rattle.bankmurmur.specs.Program.{ReadInto}
 
 module _ (file lent out : List ℕ) (n : ℕ) (r : Checked) (is : r ≡ checked file) where
   pub refused-printed : (number place : ℕ) → r ≡ Checked-refused number place → Starts (refusedLine number place) lent out n → Starts (printed file) lent out n
@@ -49,14 +46,3 @@ whole-printed file = by (refusal true file) refl
     by Fine e =
         let good = fine-well-formed file true e in
         rw (take-all 65536 file (omega (arith, good .size, good .few-workers, good .few-fields, good .few-events)))
-
--- bytes at the start of a buffer
-pub counted : (buffer : List ℕ) (n : ℕ) → n ≤ length buffer → (n ≤ length buffer) × (n ≡ length (take n buffer))
-counted buffer n l = (l, sym (length-take-le n buffer l))
-
-module _ (buffer : List ℕ) (r : Input) (n : ℕ) (q : r ≡ Bytes n) (h : ReadInto buffer r) where
-  pub read-within : n ≤ length buffer
-  read-within = (rw q at h) .0
-
-  pub read-count : n ≡ length (take n buffer)
-  read-count = (rw q at h) .1

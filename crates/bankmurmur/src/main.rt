@@ -7,47 +7,11 @@ ghost use Rattle.tables.specs.Answers.{saidBy};
 ghost use Rattle.tables.specs.Finds.{said};
 ghost use Rattle.lines.specs.Text.{Starts};
 ghost use Rattle.lines.specs.Lines.{printed};
-ghost use Rattle.bankmurmur.specs.Program.{ReadInto};
+use input::Input;
 use libc::STDERR_FILENO;
-use libc::STDIN_FILENO;
 use libc::STDOUT_FILENO;
 use recording::Checked;
 use tables::Answer;
-
-// What reading standard input gave.
-enum Input {
-    // So many bytes, at the start of the buffer.
-    Bytes(usize),
-    Failed,
-}
-
-// One read, which may bring only some of what is there, and nothing at the end.
-fn read_some(buffer: &mut [u8]) -> Input
-    ensures { λ r. ⌜ ReadInto (now (buffer .exit)) r ⌝ }
-{
-    let got = libc::read(STDIN_FILENO, buffer);
-    if got < 0 {
-        return Input::Failed;
-    }
-    Input::Bytes(io::count(got, buffer))
-}
-
-// Reads to the end of the input or of the buffer.
-fn read_input(buffer: &mut [u8]) -> Input
-    ensures { λ r. ⌜ ReadInto (now (buffer .exit)) r ⌝ }
-{
-    let mut at = 0;
-    while at < buffer.len() {
-        let Input::Bytes(more) = read_some(&mut buffer[at..]) else {
-            return Input::Failed;
-        };
-        if more == 0 {
-            return Input::Bytes(at);
-        }
-        at += more;
-    }
-    Input::Bytes(at)
-}
 
 // What each finder says of a file, with tables of its own.
 fn early_answer(file: &[u8]) -> Answer
@@ -86,7 +50,7 @@ fn answer(file: &[u8], out: &mut [u8; lines::SIZE]) -> usize
 // The answer goes out in one piece. No well-formed file fills the buffer, so what is past it changes no answer.
 fn main() {
     let mut buffer = [0u8; 65536];
-    match read_input(&mut buffer) {
+    match input::read(&mut buffer) {
         Input::Failed => {
             io::write_all(STDERR_FILENO, b"bankmurmur: cannot read standard input\n");
         }

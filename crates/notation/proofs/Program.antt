@@ -1,13 +1,10 @@
--- Laws of the bytes that were read, and of what is made of a text.
+-- Laws of what is made of a text.
 use mathlib.Core.Path.{_≡_, refl, sym, _∙_}
 use mathlib.Core.List.{List}
 use Prim.Native.Nat.{ℕ, _-_, _≤_}
 use native.Mathlib.Nat.{sub-zero}
 use native.Mathlib.Omega.{arith}
 use lib.ListN.{length, take, length-append}
-use lib.Seq.{length-take-le}
-use Rattle.notation.specs.declared.Input.{Input}
-use Rattle.notation.specs.declared.Input.the-variants.{Bytes}
 use Rattle.notation.specs.declared.Made.{Made}
 use Rattle.notation.specs.declared.Made.the-variants.{Bad, Refused, File}
 use Rattle.spelling.specs.declared.Lengths.{Lengths}
@@ -21,14 +18,7 @@ use Rattle.recording.specs.Writing.{Rows, rowsGiven, contentsOf, writeTests, fi
 use Rattle.spelling.specs.Notation.{Said, bad, rows, said}
 use Rattle.spelling.specs.Passes.{answerTo, Reads}
 use Rattle.spelling.proofs.Handing.{read-handed, read-says}
-use Rattle.notation.specs.Program.{ReadInto, madeBy, Makes}
-
--- bytes at the start of a buffer
-pub counted : (buffer : List ℕ) (n : ℕ) → n ≤ length buffer → (n ≤ length buffer) × (n ≡ length (take n buffer))
-counted buffer n l = (l, sym (length-take-le n buffer l))
-
-pub read-within : (buffer : List ℕ) (r : Input) (n : ℕ) → r ≡ Bytes n → ReadInto buffer r → n ≤ length buffer
-read-within buffer r n q h = (rw q at h) .0
+use Rattle.notation.specs.Program.{madeBy, Makes}
 
 -- what `make` answers and leaves, after the text was read
 module _ (text : List ℕ) (lent left : Rows) (r : Notation) (read : Reads text lent left r) (buffer : List ℕ) where

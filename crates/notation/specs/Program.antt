@@ -1,22 +1,14 @@
--- What reading standard input leaves in the buffer, and what the program makes of a text.
+-- What the program makes of a text.
 use mathlib.Core.Path.{_≡_}
 use mathlib.Core.List.{List}
 use Prim.Native.Nat.{ℕ}
 use lib.ListN.{length}
-use Rattle.io.specs.Counts.{Counts}
-use Rattle.notation.specs.declared.Input.{Input}
-use Rattle.notation.specs.declared.Input.the-variants.{Bytes, Failed}
 use Rattle.notation.specs.declared.Made.{Made}
 use Rattle.notation.specs.declared.Made.the-variants.{Bad, Refused, File}
 use Rattle.recording.specs.declared.Written.{Written}
 use Rattle.recording.specs.declared.Written.the-variants.{Refused as Written-refused, Bytes as Written-bytes}
 use Rattle.recording.specs.Writing.{contentsOf, writeTests, fileOf, wrote, left}
 use Rattle.spelling.specs.Notation.{Said, bad, rows}
-
--- so many bytes stand at the start of the buffer
-abbrev pub ReadInto : List ℕ → Input → Type 0
-ReadInto buffer (Bytes n) = Counts n buffer
-ReadInto buffer Failed = Unit {0}
 
 -- what the writer answers
 abbrev pub madeBy : Written → Made

@@ -1,18 +1,11 @@
 // The program: reads lines of document 01's notation from standard input, and writes the recording file to standard output.
 ghost use Rattle.spelling.specs.Notation.{said};
-ghost use Rattle.notation.specs.Program.{ReadInto, Makes};
+ghost use Rattle.notation.specs.Program.{Makes};
+use input::Input;
 use libc::STDERR_FILENO;
-use libc::STDIN_FILENO;
 use libc::STDOUT_FILENO;
 use recording::Written;
 use spelling::Notation;
-
-// What reading standard input gave.
-enum Input {
-    // So many bytes, at the start of the buffer.
-    Bytes(usize),
-    Failed,
-}
 
 // What a text makes: a bad word begins at a place, or the writer refuses the rows, or so many bytes of a file.
 enum Made {
@@ -20,34 +13,6 @@ enum Made {
     // Number and place.
     Refused(u32, usize),
     File(usize),
-}
-
-// One read, which may bring only some of what is there, and nothing at the end.
-fn read_some(buffer: &mut [u8]) -> Input
-    ensures { λ r. ⌜ ReadInto (now (buffer .exit)) r ⌝ }
-{
-    let got = libc::read(STDIN_FILENO, buffer);
-    if got < 0 {
-        return Input::Failed;
-    }
-    Input::Bytes(io::count(got, buffer))
-}
-
-// Reads to the end of the input or of the buffer. A text that was cut by a failed read is not used.
-fn read_input(buffer: &mut [u8]) -> Input
-    ensures { λ r. ⌜ ReadInto (now (buffer .exit)) r ⌝ }
-{
-    let mut at = 0;
-    while at < buffer.len() {
-        let Input::Bytes(more) = read_some(&mut buffer[at..]) else {
-            return Input::Failed;
-        };
-        if more == 0 {
-            return Input::Bytes(at);
-        }
-        at += more;
-    }
-    Input::Bytes(at)
 }
 
 // The file of a text, at the start of the buffer.
@@ -126,7 +91,7 @@ fn answer(text: &[u8]) {
 // One byte more than a text may have, so that a longer text is seen to be too long.
 fn main() {
     let mut text = [0u8; spelling::MOST + 1];
-    match read_input(&mut text) {
+    match input::read(&mut text) {
         Input::Failed => {
             io::write_all(STDERR_FILENO, b"notation: cannot read standard input\n");
         }

@@ -2,8 +2,8 @@
 use mathlib.Core.List.{List}
 use Prim.Native.Nat.{ℕ}
 use Rattle.io.specs.Counts.{Counts}
-use Rattle.bankmurmur.specs.declared.Input.{Input}
-use Rattle.bankmurmur.specs.declared.Input.the-variants.{Bytes, Failed}
+use Rattle.input.specs.declared.Input.{Input}
+use Rattle.input.specs.declared.Input.the-variants.{Bytes, Failed}
 
 -- so many bytes stand at the start of the buffer
 abbrev pub ReadInto : List ℕ → Input → Type 0

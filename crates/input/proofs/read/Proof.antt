@@ -1,11 +1,11 @@
--- `read_input` stays within the buffer; what is left of it falls with each read.
+-- `read` stays within the buffer; what is left of it falls with each read.
 use mathlib.Core.Path.{_≡_}
 use Prim.Native.Nat.{_-_, _≤_}
 use lib.ListN.{length}
 use borrow.Author.Needs.{needs}
-use Rattle.bankmurmur.proofs.Program.{counted, read-within}
-use Rattle.bankmurmur.proofs.read_input.Statement.{statement}
-use Rattle.bankmurmur.proofs.read_input.Tie as tie
+use Rattle.input.proofs.Reading.{counted, read-within}
+use Rattle.input.proofs.read.Statement.{statement}
+use Rattle.input.proofs.read.Tie as tie
 
 abbrev Inv-loop : tie.InvT-loop
 Inv-loop buffer₀ at₀ buffer at = (at ≤ length buffer) × (length buffer ≡ length buffer₀)
@@ -65,8 +65,8 @@ same-length-3 c = search needs
 returns-3 : tie.Need-returns-3 Inv-loop μ-loop
 returns-3 c = counted _ _ (search needs)
 
-pub read-input-spec : {M : Type 1} → statement M
-read-input-spec =
+pub read-spec : {M : Type 1} → statement M
+read-spec =
     tie.close
     (tie.spec
     Inv-loop

@@ -1,2 +1,0 @@
--- What must be believed of the program beside the printed text.
-pub mod Program

@@ -1,0 +1,2 @@
+-- What must be believed of reading standard input.
+pub mod Reading
