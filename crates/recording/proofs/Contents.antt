@@ -3,7 +3,6 @@ use mathlib.Core.Path.{_≡_, refl}
 use mathlib.Core.List.{List}
 use Prim.Native.Nat.{ℕ, zero, suc, _+_, _<_}
 use native.Mathlib.Omega.{arith}
-use Rattle.recording.specs.declared.Entry.{Entry}
 use Rattle.recording.specs.Tests.{Contents}
 use Rattle.recording.specs.WellFormed.{Formed}
 use Rattle.recording.specs.Writing.{twoBytes, entryBytes, items, sectionOf, fileOf}

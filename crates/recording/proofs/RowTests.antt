@@ -4,14 +4,14 @@ use mathlib.Core.Bool.{Bool, true, false, cond, and-false}
 use mathlib.Core.List.{List}
 use Prim.Native.Nat.{ℕ, zero, suc, _+_, _*_, _-_, _<_, _≤_}
 use native.Mathlib.Omega.{arith}
-use lib.Dec.{ltb, leb}
+use lib.Dec.{ltb}
 use lib.ListN.{length, getD}
-use borrow.Author.Tests.{lt-ltb, le-ltb, le-leb, lt-leb, ltb-true, ltb-false, leb-true}
+use borrow.Author.Tests.{lt-ltb, le-ltb, le-leb, lt-leb, ltb-true, ltb-false}
 use Rattle.recording.specs.declared.Fault.{Fault}
 use Rattle.recording.specs.declared.Fault.the-variants.{Fine, Refused}
 use Rattle.recording.specs.declared.Entry.{Entry}
 use Rattle.recording.specs.Tests.{need, _then_, rising, eventsTests, section, labelSection, eventSection, endTest, eventsToEnd, fieldsAt, eventsAt, fileSize, fileTests}
-use Rattle.recording.specs.Writing.{Rows, numberOf, entryOf, larger, smaller, longest, shortest, fitting, reach, contentsOf, rowsTests}
+use Rattle.recording.specs.Writing.{Rows, numberOf, entryOf, larger, smaller, longest, shortest, fitting, reach, rowsTests}
 use Rattle.recording.specs.Parts.{rowAnswer, rowsAnswer}
 use Rattle.recording.proofs.Tests.{fine-need, then-done, fine-first, first-or-later, then-same, section-same, Labels, labels-good}
 

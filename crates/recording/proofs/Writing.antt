@@ -2,24 +2,23 @@
 use mathlib.Core.Path.{_≡_, refl, sym, _∙_}
 use mathlib.Core.List.{List, _++_, append-assoc}
 use Prim.Native.Nat.{ℕ, _+_, _*_, _<_, _≤_}
-use native.Mathlib.Nat.{zero-add}
 use native.Mathlib.Omega.{arith}
 use lib.Dec.{leb}
-use lib.ListN.{length, drop, length-append}
+use lib.ListN.{length, length-append}
 use borrow.Author.Tests.{lt-ltb, le-ltb, le-leb, lt-leb}
 use Rattle.recording.specs.declared.Fault.{Fault}
 use Rattle.recording.specs.declared.Fault.the-variants.{Fine, Refused}
 use Rattle.recording.specs.declared.Entry.{Entry}
 use Rattle.recording.specs.declared.Written.{Written}
 use Rattle.recording.specs.declared.Written.the-variants.{Refused as Written-refused, Bytes}
-use Rattle.recording.specs.Tests.{need, _then_, fieldsAt, fileSize, Contents}
+use Rattle.recording.specs.Tests.{need, _then_, Contents}
 use Rattle.recording.specs.WellFormed.{Good, Formed}
 use Rattle.recording.specs.WellFormed.Good.{read, write, crossing}
 use Rattle.recording.specs.Buffer.{put}
-use Rattle.recording.specs.Writing.{Rows, rowsGiven, numberOf, entryOf, longest, shortest, fitting, reach, contentsOf, sizeOf, rowsTests, writeTests, twoBytes, entryBytes, sectionOf, labelsOf, eventsOf, fileOf, Writes}
+use Rattle.recording.specs.Writing.{Rows, rowsGiven, numberOf, longest, shortest, fitting, reach, contentsOf, sizeOf, rowsTests, writeTests, twoBytes, entryBytes, sectionOf, fileOf, Writes}
 use Rattle.recording.specs.Parts.{labelBytes, eventBytesOf, EntryFits, LabelsFit, EntriesFit}
 use Rattle.recording.proofs.WellFormed.{fine-formed}
-use Rattle.recording.proofs.RowTests.{either, fitting-all, fitting-few, between}
+use Rattle.recording.proofs.RowTests.{either, fitting-all, between}
 use Rattle.recording.proofs.Buffer.{put-put, put-start}
 use Rattle.recording.proofs.Bytes.{length-section}
 

@@ -1,5 +1,4 @@
 -- `larger_of` answers the larger of two numbers.
-use borrow.Author.Needs.{needs}
 use Rattle.recording.proofs.RowTests.{larger-second, larger-first}
 use Rattle.recording.proofs.rows.larger_of.Statement.{statement}
 use Rattle.recording.proofs.rows.larger_of.Tie as tie

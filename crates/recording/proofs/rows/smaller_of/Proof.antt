@@ -1,5 +1,4 @@
 -- `smaller_of` answers the smaller of two numbers.
-use borrow.Author.Needs.{needs}
 use Rattle.recording.proofs.RowTests.{smaller-second, smaller-first}
 use Rattle.recording.proofs.rows.smaller_of.Statement.{statement}
 use Rattle.recording.proofs.rows.smaller_of.Tie as tie

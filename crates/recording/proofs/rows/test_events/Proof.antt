@@ -1,7 +1,7 @@
 -- `test_events` answers as the events' tests do: what is still to come answers the same at each turn.
 use borrow.Author.Needs.{needs}
 use mathlib.Core.Path.{_≡_}
-use Prim.Native.Nat.{_+_, _-_, _≤_}
+use Prim.Native.Nat.{_-_, _≤_}
 use native.Mathlib.Nat.{sub-zero}
 use lib.ListN.{length}
 use Rattle.recording.specs.Tests.{eventsTests}
