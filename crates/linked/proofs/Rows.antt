@@ -7,9 +7,9 @@ use Rattle.sorts.specs.declared.Field.{Field}
 use Rattle.tables.specs.declared.Answer.{Answer}
 use Rattle.tables.specs.declared.Answer.the-variants.{Refused, Accepted, Reported}
 use Rattle.tables.specs.Answers.{saidBy}
-use Rattle.recording.specs.declared.Written.{Written}
-use Rattle.recording.specs.declared.Written.the-variants.{Refused as Written-refused, Bytes}
-use Rattle.recording.specs.Writing.{Rows, Writes}
+use Rattle.writing.specs.declared.Written.{Written}
+use Rattle.writing.specs.declared.Written.the-variants.{Refused as Written-refused, Bytes}
+use Rattle.writing.specs.Writing.{Rows, Writes}
 use Rattle.early.specs.Finds as early
 use Rattle.late.specs.Finds as late
 use Rattle.linked.specs.Rows.{rowOf, writtenRow, EarlyLinked, LateLinked, WriteLinked}

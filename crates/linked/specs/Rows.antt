@@ -4,9 +4,9 @@ use mathlib.Core.List.{List, [], _∷_}
 use Prim.Native.Nat.{ℕ}
 use lib.ListN.{length}
 use Rattle.events.specs.Verdicts.{accepted, reported}
-use Rattle.recording.specs.declared.Written.{Written}
-use Rattle.recording.specs.declared.Written.the-variants.{Refused, Bytes}
-use Rattle.recording.specs.Writing.{Rows, contentsOf, writeTests, fileOf, wrote, Writes}
+use Rattle.writing.specs.declared.Written.{Written}
+use Rattle.writing.specs.declared.Written.the-variants.{Refused, Bytes}
+use Rattle.writing.specs.Writing.{Rows, contentsOf, writeTests, fileOf, wrote, Writes}
 use Rattle.tables.specs.Answers.{Said, refused, judged}
 use Rattle.tables.specs.Finds.{said}
 use Rattle.early.specs.Finds as early

@@ -1,10 +1,10 @@
 // The library as a Rust or C program links it: the finders and the writer on plain slices, their answers as rows of six numbers.
 ghost use mathlib.Core.Path.{_≡_};
 ghost use Rattle.tables.specs.Answers.{saidBy};
-ghost use Rattle.recording.specs.Writing.{rowsGiven};
+ghost use Rattle.writing.specs.Writing.{rowsGiven};
 ghost use Rattle.linked.specs.Rows.{rowOf, writtenRow, EarlyLinked, LateLinked, WriteLinked};
-use recording::Written;
 use tables::Answer;
+use writing::Written;
 
 // What is answered, and then: number and place; nothing; or event, sort, worker, other worker and field.
 const REFUSED: u64 = 0;
@@ -93,6 +93,6 @@ pub extern "C" fn bankmurmur_write(
 )
     ensures { λ _. ⌜ WriteLinked (rowsGiven (now («worker_labels» .entry)) (now («field_labels» .entry)) (now (kinds .entry)) (now (workers .entry)) (now (fields .entry))) (now (buffer .entry)) (now (buffer .exit)) (now (row .exit)) ⌝ }
 {
-    let answer = recording::write(worker_labels, field_labels, kinds, workers, fields, buffer);
+    let answer = writing::write(worker_labels, field_labels, kinds, workers, fields, buffer);
     put_written(answer, row);
 }

@@ -12,9 +12,9 @@ use Rattle.spelling.specs.declared.Notation.{Notation}
 use Rattle.spelling.specs.declared.Notation.the-variants.{Bad as Unread, Rows as Filled}
 use Rattle.recording.specs.declared.Fault.{Fault}
 use Rattle.recording.specs.declared.Fault.the-variants.{Fine, Refused as Fault-refused}
-use Rattle.recording.specs.declared.Written.{Written}
-use Rattle.recording.specs.declared.Written.the-variants.{Refused as Written-refused, Bytes as Written-bytes}
-use Rattle.recording.specs.Writing.{Rows, rowsGiven, contentsOf, writeTests, fileOf, wrote, left as leave, Writes}
+use Rattle.writing.specs.declared.Written.{Written}
+use Rattle.writing.specs.declared.Written.the-variants.{Refused as Written-refused, Bytes as Written-bytes}
+use Rattle.writing.specs.Writing.{Rows, rowsGiven, contentsOf, writeTests, fileOf, wrote, left as leave, Writes}
 use Rattle.spelling.specs.Notation.{Said, bad, rows, said}
 use Rattle.spelling.specs.Passes.{answerTo, Reads}
 use Rattle.spelling.proofs.Handing.{read-handed, read-says}

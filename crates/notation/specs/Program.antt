@@ -5,9 +5,9 @@ use Prim.Native.Nat.{ℕ}
 use lib.ListN.{length}
 use Rattle.notation.specs.declared.Made.{Made}
 use Rattle.notation.specs.declared.Made.the-variants.{Bad, Refused, File}
-use Rattle.recording.specs.declared.Written.{Written}
-use Rattle.recording.specs.declared.Written.the-variants.{Refused as Written-refused, Bytes as Written-bytes}
-use Rattle.recording.specs.Writing.{contentsOf, writeTests, fileOf, wrote, left}
+use Rattle.writing.specs.declared.Written.{Written}
+use Rattle.writing.specs.declared.Written.the-variants.{Refused as Written-refused, Bytes as Written-bytes}
+use Rattle.writing.specs.Writing.{contentsOf, writeTests, fileOf, wrote, left}
 use Rattle.spelling.specs.Notation.{Said, bad, rows}
 
 -- what the writer answers

@@ -4,8 +4,8 @@ ghost use Rattle.notation.specs.Program.{Makes};
 use input::Input;
 use libc::STDERR_FILENO;
 use libc::STDOUT_FILENO;
-use recording::Written;
 use spelling::Notation;
+use writing::Written;
 
 // What a text makes: a bad word begins at a place, or the writer refuses the rows, or so many bytes of a file.
 enum Made {
@@ -37,7 +37,7 @@ fn make(text: &[u8], buffer: &mut [u8]) -> Made
             let w = lengths.workers;
             let f = lengths.fields;
             let e = lengths.events;
-            match recording::write(
+            match writing::write(
                 &worker_labels[0..w],
                 &field_labels[0..f],
                 &kinds[0..e],

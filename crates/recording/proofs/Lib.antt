@@ -6,11 +6,4 @@ pub mod Guarantee
 pub mod Reading
 pub mod Longer
 pub mod Answers
-pub mod RowTests
 pub mod Buffer
-pub mod Bytes
-pub mod Writing
-pub mod Contents
-pub mod Listed
-pub mod ReadBack
-pub mod WriteBack

@@ -3,5 +3,4 @@ pub mod Tests
 pub mod File
 pub mod WellFormed
 pub mod Buffer
-pub mod Writing
 pub mod Parts

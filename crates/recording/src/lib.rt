@@ -1,8 +1,6 @@
-// The file of a recording: bytes to labels and events and back, refused by the first test that fails.
-mod event;
+// The file of a recording: bytes to labels and events, refused by the first test that fails.
+pub mod event;
 mod numbers;
-mod put;
-mod rows;
 mod sections;
 
 use events::Event;
@@ -11,7 +9,6 @@ use sorts::Worker;
 ghost use mathlib.Core.Path.{_≡_};
 ghost use Prim.Native.Nat.{_<_};
 ghost use Rattle.recording.specs.File.{checked, eventOf, eventAt, workerLabel, fieldLabel, Accepted, placeOf, stepAt};
-ghost use Rattle.recording.specs.Writing.{rowsGiven, Writes};
 
 // What a test of the file answers.
 pub enum Fault {
@@ -43,12 +40,6 @@ pub struct Counts {
 pub enum Checked {
     Refused(u32, usize),
     Fine(Counts),
-}
-
-// The answer to rows that are to be written: refused by number and place, or so many bytes written.
-pub enum Written {
-    Refused(u32, usize),
-    Bytes(usize),
 }
 
 // The answer to one section: refused, or fine with its count.
@@ -188,37 +179,4 @@ pub fn read(file: &[u8], workers: u32, fields: u32, events: u32, at: usize) -> S
     ensures { λ r. ⌜ r ≡ stepAt (now (file .entry)) at ⌝ }
 {
     Reader::new(file, workers, fields, events, at).next()
-}
-
-// Writes the file of these labels and events into the buffer, or refuses them and leaves it as it was. The events are three rows of numbers:
-// their kinds, workers and fields.
-pub fn write(
-    worker_labels: &[u32],
-    field_labels: &[u32],
-    kinds: &[u32],
-    workers: &[u32],
-    fields: &[u32],
-    buffer: &mut [u8],
-) -> Written
-    ensures { λ r. ⌜ Writes (rowsGiven (now («worker_labels» .entry)) (now («field_labels» .entry)) (now (kinds .entry)) (now (workers .entry)) (now (fields .entry))) (now (buffer .entry)) r (now (buffer .exit)) ⌝ }
-{
-    if let Fault::Refused(number, place) = rows::tests(
-        worker_labels,
-        field_labels,
-        kinds,
-        workers,
-        fields,
-    ) {
-        return Written::Refused(number, place);
-    }
-    let fields_at = 2 + 2 * worker_labels.len();
-    let events_at = fields_at + 2 + 2 * field_labels.len();
-    let size = events_at + 2 + Entry::BYTES * kinds.len();
-    if buffer.len() < size {
-        return Written::Refused(12, 0);
-    }
-    put::labels(buffer, 0, worker_labels);
-    put::labels(buffer, fields_at, field_labels);
-    put::events(buffer, events_at, kinds, workers, fields);
-    Written::Bytes(size)
 }

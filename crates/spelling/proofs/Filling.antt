@@ -10,7 +10,7 @@ use lib.ListN.{length, take, drop, set, length-set, take-append-drop}
 use lib.Seq.{length-take-le, take-suc-set, drop-set-lt, drop-drop, append-snoc, take-nil}
 use borrow.Author.Tests.{lt-ltb, le-ltb, ltb-true, ltb-false, leb-true}
 use Rattle.events.proofs.Tests.{bool}
-use Rattle.recording.specs.Writing.{Rows, rowsGiven}
+use Rattle.writing.specs.Writing.{Rows, rowsGiven}
 use Rattle.spelling.specs.declared.Number.{Number}
 use Rattle.spelling.specs.declared.Number.the-variants.{Of, Missing}
 use Rattle.spelling.specs.declared.Heading.{Heading}

@@ -5,7 +5,7 @@ use Prim.Native.Nat.{ℕ, _≤_}
 use native.Mathlib.Omega.{arith}
 use lib.ListN.{length, take, drop, length-append, length-take}
 use lib.Seq.{take-at}
-use Rattle.recording.specs.Writing.{Rows}
+use Rattle.writing.specs.Writing.{Rows}
 use Rattle.spelling.specs.declared.Word.{Word}
 use Rattle.spelling.specs.declared.Word.the-variants.{NoWord, Opens, WorkerLabel, FieldLabel, Event, Bad as Bad-word}
 use Rattle.spelling.specs.declared.Part.the-variants.{WorkerLabels, FieldLabels, EventKinds, EventWorkers, EventFields}

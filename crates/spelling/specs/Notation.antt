@@ -7,7 +7,7 @@ use Prim.Native.String.{String, [] as none, _∷_ as _before_}
 use lib.Dec.{eqb, ltb, leb}
 use lib.ListN.{length, getD, take, drop}
 use Rattle.recording.specs.declared.Entry.{Entry}
-use Rattle.recording.specs.Writing.{Rows}
+use Rattle.writing.specs.Writing.{Rows}
 use Rattle.spelling.specs.declared.Number.{Number}
 use Rattle.spelling.specs.declared.Number.the-variants.{Of, Missing}
 use Rattle.spelling.specs.declared.Heading.{Heading}

@@ -5,7 +5,7 @@ use mathlib.Core.List.{List, _++_}
 use Prim.Native.Nat.{ℕ, _+_, _-_}
 use lib.Dec.{ltb}
 use lib.ListN.{length, take, drop, set}
-use Rattle.recording.specs.Writing.{Rows as FiveRows}
+use Rattle.writing.specs.Writing.{Rows as FiveRows}
 use Rattle.spelling.specs.declared.Number.{Number}
 use Rattle.spelling.specs.declared.Number.the-variants.{Of, Missing}
 use Rattle.spelling.specs.declared.Heading.{Heading}

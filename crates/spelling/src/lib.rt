@@ -2,7 +2,7 @@
 ghost use mathlib.Core.Path.{_≡_};
 ghost use Prim.Native.Nat.{_≤_};
 ghost use lib.ListN.{length, take};
-ghost use Rattle.recording.specs.Writing.{rowsGiven};
+ghost use Rattle.writing.specs.Writing.{rowsGiven};
 ghost use Rattle.spelling.specs.Notation.{same, numberOf, dotIn, eventBy, accessOf, eventOf, entryUnder, wordUnder, blankAt, headingAfter, valueOf, valuesIn, words, judged};
 ghost use Rattle.spelling.specs.Passes.{stepAt, Stores, Holds, Reads};
 use recording::Entry;

@@ -6,7 +6,7 @@ use libc::STDIN_FILENO;
 
 mod wire; // wire.rt: numbers on the wire
 mod finding; // finding.rt: the finders' requests
-mod writing; // writing.rt: the writer's requests
+mod rows; // rows.rt: the writer's requests
 
 // A request's head: nine numbers.
 fn head_space() -> [u8; 36]
@@ -23,7 +23,7 @@ fn serve(space: &mut [u8], out: &mut [u8]) -> bool {
     }
     // A length that no file has marks a request to the writer.
     if wire::number(&head, 0) == 4294967294 {
-        return writing::serve(&head, space, out);
+        return rows::serve(&head, space, out);
     }
     finding::serve(&head, space, out)
 }

@@ -1,6 +1,6 @@
 -- `make` hands the writer the words that were read.
 use Rattle.spelling.specs.Notation.{words, rowsIn}
-use Rattle.recording.specs.Writing.{rowsGiven}
+use Rattle.writing.specs.Writing.{rowsGiven}
 use Rattle.spelling.proofs.Handing.{Handed, read-handed}
 use Rattle.notation.proofs.Program.{make-bad, make-refused, make-file}
 use borrow.Author.Needs.{needs}

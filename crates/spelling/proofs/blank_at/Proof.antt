@@ -1,3 +1,4 @@
+-- `blank_at` tells a blank, or the end of the text.
 use Rattle.spelling.proofs.Passing.{blank-end, blank-within}
 use borrow.Author.Needs.{needs}
 use Rattle.spelling.proofs.blank_at.Statement.{statement}

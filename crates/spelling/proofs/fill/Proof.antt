@@ -1,3 +1,4 @@
+-- `fill` goes over the text once: what the words so far have given stands in the row.
 use mathlib.Core.Path.{_≡_}
 use Prim.Native.Nat.{_+_, _-_, _≤_}
 use lib.ListN.{length, take}

@@ -1,3 +1,4 @@
+-- `judge` goes over the text once, up to the first bad word.
 use mathlib.Core.Path.{_≡_}
 use Prim.Native.Nat.{_+_, _-_, _≤_}
 use lib.ListN.{length}

@@ -1,3 +1,4 @@
+-- `step_at` is a pass at one byte: one law for each way out.
 use Rattle.spelling.proofs.Passing.{step-within, step-blank, step-word}
 use borrow.Author.Needs.{needs}
 use Rattle.spelling.proofs.step_at.Statement.{statement}

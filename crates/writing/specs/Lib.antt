@@ -1,0 +1,3 @@
+-- What must be believed of the writer. Parts is only for the crate's own functions.
+pub mod Writing
+pub mod Parts
