@@ -2,11 +2,10 @@
 use mathlib.Core.Path.{_≡_}
 use mathlib.Core.List.{List, [], _∷_}
 use Prim.Native.Nat.{ℕ}
-use lib.ListN.{length}
 use Rattle.events.specs.Verdicts.{accepted, reported}
 use Rattle.writing.specs.declared.Written.{Written}
 use Rattle.writing.specs.declared.Written.the-variants.{Refused, Bytes}
-use Rattle.writing.specs.Writing.{Rows, contentsOf, writeTests, fileOf, wrote, Writes}
+use Rattle.writing.specs.Writing.{Rows, writerSays, Writes}
 use Rattle.tables.specs.Answers.{Said, refused, judged}
 use Rattle.tables.specs.Finds.{said}
 use Rattle.early.specs.Finds as early
@@ -42,10 +41,6 @@ writtenRow (Refused number place) = 0 ∷ number ∷ place ∷ 0 ∷ 0 ∷ 0 ∷
 writtenRow (Bytes n) = 1 ∷ n ∷ 0 ∷ 0 ∷ 0 ∷ 0 ∷ []
 
 -- the row and the buffer are those of the writer's answer
-module _ (r : Rows) (lent : List ℕ) where
-  abbrev pub writeSaid : Written
-  writeSaid = wrote (writeTests (length lent) r) (fileOf (contentsOf r))
-
-  pub record WriteLinked (buffer row : List ℕ) : Type 0 where
-    pub row-is : row ≡ writtenRow writeSaid
-    pub writes : Writes r lent writeSaid buffer
+pub record WriteLinked (r : Rows) (lent buffer row : List ℕ) : Type 0 where
+  pub row-is : row ≡ writtenRow (writerSays r lent)
+  pub writes : Writes r lent (writerSays r lent) buffer

@@ -7,11 +7,12 @@ use native.Mathlib.Omega.{arith}
 use lib.Dec.{ltb}
 use lib.ListN.{length, getD}
 use borrow.Author.Tests.{lt-ltb, le-ltb, le-leb, lt-leb, ltb-true, ltb-false}
+use Rattle.events.proofs.Tests.{bool}
 use Rattle.recording.specs.declared.Fault.{Fault}
 use Rattle.recording.specs.declared.Fault.the-variants.{Fine, Refused}
 use Rattle.recording.specs.declared.Entry.{Entry}
 use Rattle.recording.specs.Tests.{need, _then_, rising, eventsTests, section, labelSection, eventSection, endTest, eventsToEnd, fieldsAt, eventsAt, fileSize, fileTests}
-use Rattle.writing.specs.Writing.{Rows, numberOf, entryOf, larger, smaller, longest, shortest, fitting, reach, rowsTests}
+use Rattle.writing.specs.Writing.{Rows, numberOf, entryOf, larger, smaller, longest, shortest, fitting, fittingIn, reach, rowsTests}
 use Rattle.writing.specs.Parts.{rowAnswer, rowsAnswer}
 use Rattle.recording.proofs.Tests.{fine-need, then-done, fine-first, first-or-later, then-same, section-same, Labels, labels-good}
 
@@ -43,11 +44,7 @@ module _ (a b : ℕ) where
   smaller-second l = rw (le-ltb a b l)
 
   pub either : {P : Type 0} → (a < b → P) → (b ≤ a → P) → P
-  either {P} less more = by (ltb a b) refl
-    where
-      by : (t : Bool) → ltb a b ≡ t → P
-      by true e = less (ltb-true a b e)
-      by false e = more (ltb-false a b e)
+  either less more = bool (ltb a b) (λ e. less (ltb-true a b e)) (λ e. more (ltb-false a b e))
 
   pub larger-bounds : (a ≤ larger a b) × (b ≤ larger a b)
   larger-bounds =
@@ -77,15 +74,6 @@ module _ (label : ℕ → ℕ) (count n x : ℕ) (inv : n + fitting label n (cou
 pub fits-first : (label : ℕ → ℕ) (count : ℕ) → 0 + fitting label 0 (count - 0) ≡ fitting label 0 count
 fits-first label count = let z : count - 0 ≡ count = omega arith in rw z (omega arith)
 
-pub fitting-few : (label : ℕ → ℕ) (n k : ℕ) → fitting label n k ≤ k
-unfolding fitting
-fitting-few label n zero = omega arith
-fitting-few label n (suc k) = by (ltb (label n) 65536) (fitting label (n + 1) k) (fitting-few label (n + 1) k)
-  where
-    by : (t : Bool) (m : ℕ) → m ≤ k → cond t (1 + m) 0 ≤ suc k
-    by true m l = omega arith
-    by false m l = omega arith
-
 pub fitting-whole : (label : ℕ → ℕ) (n k : ℕ) → ((j : ℕ) → j < n + k → label j < 65536) → fitting label n k ≡ k
 unfolding fitting
 fitting-whole label n zero all = refl
@@ -110,18 +98,15 @@ fitting-all label n (suc k) e j l m =
 
 -- a row of labels, test by test
 module _ (row : List ℕ) (at limit range order : ℕ) where
-  fit : ℕ
-  fit = fitting (numberOf row) 0 (length row)
-
   pub row-zero : length row ≡ 0 → Refused range at ≡ rowAnswer row at limit range order
-  unfolding rowAnswer labelSection section _then_ need fit
-  row-zero z = rw (le-leb (at + 2) (at + 2 + 2 * fit) (omega arith), z)
+  unfolding rowAnswer labelSection section _then_ need
+  row-zero z = rw (le-leb (at + 2) (at + 2 + 2 * fittingIn row) (omega arith), z)
 
   pub row-over : (length row ≡ 0 → ⊥) → limit < length row → Refused range at ≡ rowAnswer row at limit range order
-  unfolding rowAnswer labelSection section _then_ need fit
-  row-over _ l = simp (le-leb (at + 2) (at + 2 + 2 * fit) (omega arith), lt-leb (length row) limit l, and-false)
+  unfolding rowAnswer labelSection section _then_ need
+  row-over _ l = simp (le-leb (at + 2) (at + 2 + 2 * fittingIn row) (omega arith), lt-leb (length row) limit l, and-false)
 
-  module _ (z : length row ≡ 0 → ⊥) (y : length row ≤ limit) (n : ℕ) (q : n ≡ fitting (numberOf row) 0 (length row)) where
+  module _ (z : length row ≡ 0 → ⊥) (y : length row ≤ limit) (n : ℕ) (q : n ≡ fittingIn row) where
     pub row-cut : n < length row → Refused 1 (at + 2 + 2 * n) ≡ rowAnswer row at limit range order
     unfolding rowAnswer labelSection section _then_ need
     row-cut l =
@@ -202,9 +187,9 @@ module _ (kinds workers fields : List ℕ) where
           ∙ fine-first _ _ (fine-need _ _ _ (le-leb (eventsAt W F + 2 + 4 * n) (fileSize W F m) (omega arith)))
           ∙ sym t))
 
--- a row that is fine has a good count, and all its labels are two-byte values
+-- a row that is fine has a good count
 module _ (row : List ℕ) (at limit range order : ℕ) (a : Fault) (p : a ≡ rowAnswer row at limit range order) (k : a ≡ Fine) where
-  good : Labels (at + 2 + 2 * fitting (numberOf row) 0 (length row)) at (length row) (numberOf row) limit range order
+  good : Labels (at + 2 + 2 * fittingIn row) at (length row) (numberOf row) limit range order
   unfolding rowAnswer
   good = labels-good _ at (length row) (numberOf row) limit range order (sym p ∙ k)
 
@@ -214,9 +199,6 @@ module _ (row : List ℕ) (at limit range order : ℕ) (a : Fault) (p : a ≡ ro
   -- where the next row's count stands
   pub row-place : limit ≤ 16 → 2 + 2 * length row ≤ 1000
   row-place l = let few = row-few in omega arith
-
-  pub row-fits : length row ≤ fitting (numberOf row) 0 (length row)
-  row-fits = let l = good .room in omega arith
 
 -- A section that ends before the file does answers the same, however long the file is.
 ends-before : (size size′ at count : ℕ) (label : ℕ → ℕ) (limit range order : ℕ) → at + 2 + 2 * count ≤ size → at + 2 + 2 * count ≤ size′
@@ -240,10 +222,10 @@ module _ (r : Rows) where
   F = length (r .fieldLabels)
 
   abbrev w : ℕ
-  w = fitting (numberOf (r .workerLabels)) 0 W
+  w = fittingIn (r .workerLabels)
 
   abbrev f : ℕ
-  f = fitting (numberOf (r .fieldLabels)) 0 F
+  f = fittingIn (r .fieldLabels)
 
   abbrev m : ℕ
   m = shortest (r .kinds) (r .workers) (r .fields)

@@ -15,7 +15,7 @@ use Rattle.recording.specs.Tests.{need, _then_, Contents}
 use Rattle.recording.specs.WellFormed.{Good, Formed}
 use Rattle.recording.specs.WellFormed.Good.{read, write, crossing}
 use Rattle.recording.specs.Buffer.{put}
-use Rattle.writing.specs.Writing.{Rows, rowsGiven, numberOf, longest, shortest, fitting, reach, contentsOf, sizeOf, rowsTests, writeTests, twoBytes, entryBytes, sectionOf, fileOf, Writes}
+use Rattle.writing.specs.Writing.{Rows, rowsGiven, numberOf, longest, shortest, fittingIn, reach, contentsOf, sizeOf, rowsTests, writeTests, twoBytes, entryBytes, sectionOf, fileOf, Writes}
 use Rattle.writing.specs.Parts.{labelBytes, eventBytesOf, EntryFits, LabelsFit, EntriesFit}
 use Rattle.recording.proofs.WellFormed.{fine-formed}
 use Rattle.writing.proofs.RowTests.{either, fitting-all, between}
@@ -45,10 +45,10 @@ module _ (r : Rows) where
   F = length (r .fieldLabels)
 
   abbrev w : ℕ
-  w = fitting (numberOf (r .workerLabels)) 0 W
+  w = fittingIn (r .workerLabels)
 
   abbrev f : ℕ
-  f = fitting (numberOf (r .fieldLabels)) 0 F
+  f = fittingIn (r .fieldLabels)
 
   pub record Whole : Type 0 where
     pub formed : Formed (sizeOf (contentsOf r)) (contentsOf r)
@@ -72,7 +72,7 @@ module _ (r : Rows) where
     unfolding reach
     events-reached = let z = rw (le-ltb w W workers-reached, le-ltb f F fields-reached) at e in omega arith
 
-  fits : (row : List ℕ) → length row ≤ fitting (numberOf row) 0 (length row) → LabelsFit row
+  fits : (row : List ℕ) → length row ≤ fittingIn row → LabelsFit row
   unfolding numberOf
   fits row l = record { label-fits = λ n k. fitting-all (numberOf row) 0 (length row) l n (omega arith) (omega arith) }
 

@@ -6,12 +6,12 @@ use lib.ListN.{length, getD}
 use Rattle.recording.specs.declared.Fault.{Fault}
 use Rattle.recording.specs.declared.Entry.{Entry}
 use Rattle.recording.specs.Tests.{fileSize, labelSection, eventsToEnd}
-use Rattle.writing.specs.Writing.{numberOf, entryOf, longest, shortest, fitting, twoBytes, entryBytes}
+use Rattle.writing.specs.Writing.{numberOf, entryOf, longest, shortest, fittingIn, twoBytes, entryBytes}
 
 -- a row of labels to be written, with its count at place at
 unfoldable pub rowAnswer : List ℕ → ℕ → ℕ → ℕ → ℕ → Fault
 rowAnswer row at limit range order =
-    labelSection (at + 2 + 2 * fitting (numberOf row) 0 (length row)) at (length row) (numberOf row) limit range order
+    labelSection (at + 2 + 2 * fittingIn row) at (length row) (numberOf row) limit range order
 
 -- the events to be written, after W workers and F fields
 unfoldable pub rowsAnswer : List ℕ → List ℕ → List ℕ → ℕ → ℕ → Fault

@@ -66,13 +66,17 @@ unfoldable pub fitting : (ℕ → ℕ) → ℕ → ℕ → ℕ
 fitting label n zero = 0
 fitting label n (suc k) = cond (ltb (label n) 65536) (1 + fitting label (n + 1) k) 0
 
+-- the same of a whole row
+abbrev pub fittingIn : List ℕ → ℕ
+fittingIn row = fitting (numberOf row) 0 (length row)
+
 -- How many bytes can be written: up to the first label that is no 2-byte value, or else up to the first event that is not whole. Where all are fine that is the whole file.
 unfoldable pub reach : Rows → ℕ
 reach r =
     let W = length (r .workerLabels) in
     let F = length (r .fieldLabels) in
-    let w = fitting (numberOf (r .workerLabels)) 0 W in
-    let f = fitting (numberOf (r .fieldLabels)) 0 F in
+    let w = fittingIn (r .workerLabels) in
+    let f = fittingIn (r .fieldLabels) in
     cond (ltb w W) (2 + 2 * w) (cond (ltb f F) (fieldsAt W + 2 + 2 * f) (fileSize W F (shortest (r .kinds) (r .workers) (r .fields))))
 
 -- The tests and their order are those of reading, at the places of the file to be written; what cannot be written is missing (1).
@@ -124,10 +128,17 @@ abbrev pub left : Fault → List ℕ → List ℕ → List ℕ
 left (Refused number place) file lent = lent
 left Fine file lent = file ++ drop (length file) lent
 
--- What the writer promises: of these rows, and a buffer that was lent as lent, this answer and this buffer at exit.
+-- what the writer answers to these rows, and leaves in the buffer that was lent as lent
+abbrev pub writerSays : Rows → List ℕ → Written
+writerSays r lent = wrote (writeTests (length lent) r) (fileOf (contentsOf r))
+
+abbrev pub writerLeaves : Rows → List ℕ → List ℕ
+writerLeaves r lent = left (writeTests (length lent) r) (fileOf (contentsOf r)) lent
+
+-- What the writer promises: this answer, and this buffer at exit.
 pub record Writes (r : Rows) (lent : List ℕ) (answer : Written) (buffer : List ℕ) : Type 0 where
-  pub answers : answer ≡ wrote (writeTests (length lent) r) (fileOf (contentsOf r))
-  pub bytes : buffer ≡ left (writeTests (length lent) r) (fileOf (contentsOf r)) lent
+  pub answers : answer ≡ writerSays r lent
+  pub bytes : buffer ≡ writerLeaves r lent
 
 -- An event's numbers. Kind 1 is a read, 2 a write, 3 a crossing. A crossing has field number 0.
 abbrev pub numbersOf : Event → Entry

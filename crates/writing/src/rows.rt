@@ -9,12 +9,12 @@ ghost use mathlib.Core.Path.{_≡_};
 ghost use Prim.Native.Nat.{_+_, _*_, _≤_};
 ghost use lib.ListN.{length};
 ghost use Rattle.recording.specs.Tests.{rising, eventsTests};
-ghost use Rattle.writing.specs.Writing.{numberOf, entryOf, fitting, larger, smaller, longest, shortest, rowsGiven, rowsTests};
+ghost use Rattle.writing.specs.Writing.{numberOf, entryOf, fittingIn, larger, smaller, longest, shortest, rowsGiven, rowsTests};
 ghost use Rattle.writing.specs.Parts.{rowAnswer, rowsAnswer};
 
 // How many labels come before the first that is no two-byte value.
 fn fitting_labels(row: &[u32]) -> usize
-    ensures { λ r. ⌜ r ≡ fitting (numberOf (now (row .entry))) 0 (length (now (row .entry))) ⌝ }
+    ensures { λ r. ⌜ r ≡ fittingIn (now (row .entry)) ⌝ }
 {
     for n in 0..row.len() {
         if 65535 < row[n] {
