@@ -84,10 +84,16 @@ fn check(file: &[u8]) -> Result<Counts, Answer> {
             return Err(Answer::Refused { number: 7, place });
         }
         if usize::from(event[1]) >= workers {
-            return Err(Answer::Refused { number: 8, place });
+            return Err(Answer::Refused {
+                number: 8,
+                place: place + 1,
+            });
         }
         if field >= fields || (event[0] == CROSSING && field != 0) {
-            return Err(Answer::Refused { number: 9, place });
+            return Err(Answer::Refused {
+                number: 9,
+                place: place + 2,
+            });
         }
     }
     if file.len() > end {

@@ -117,7 +117,7 @@ impl Reader<'_> {
         (0..count).map(|_| self.event(workers, fields)).collect()
     }
 
-    /// Within an event: kind, worker, field.
+    /// Within an event: kind, worker, field, each refused at its own first byte.
     fn event(&mut self, workers: usize, fields: usize) -> Result<Event, Refused> {
         let place = self.place;
         let kind = match self.file[place] {
@@ -128,12 +128,12 @@ impl Reader<'_> {
         };
         let worker = usize::from(self.file[place + 1]);
         if worker >= workers {
-            return refuse(8, place);
+            return refuse(8, place + 1);
         }
         self.place = place + 2;
         let field = usize::from(self.two_bytes());
         if field >= fields || (kind == Kind::Crossing && field != 0) {
-            return refuse(9, place);
+            return refuse(9, place + 2);
         }
         Ok(Event {
             kind,
@@ -261,10 +261,10 @@ mod tests {
         );
         assert_eq!(
             refused(&changed(file.clone(), &[(15, 1), (16, 9)])),
-            (8, 14)
+            (8, 15)
         );
-        assert_eq!(refused(&changed(file.clone(), &[(16, 1)])), (9, 14));
-        assert_eq!(refused(&changed(file, &[(17, 1)])), (9, 14));
+        assert_eq!(refused(&changed(file.clone(), &[(16, 1)])), (9, 16));
+        assert_eq!(refused(&changed(file, &[(17, 1)])), (9, 16));
     }
 
     #[test]
@@ -272,7 +272,7 @@ mod tests {
         let file = plain(1, 2, 1);
         assert_eq!(
             refused(&changed(file.clone(), &[(12, 3), (14, 1)])),
-            (9, 12)
+            (9, 14)
         );
         assert!(read(&changed(file, &[(12, 3)])).is_ok());
     }

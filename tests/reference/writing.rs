@@ -117,9 +117,9 @@ fn refusal(rows: &Rows) -> Option<Refused> {
         let (kind, worker, field) = (rows.kinds[n], rows.workers[n], rows.fields[n]);
         let place = first_event + EVENT_BYTES * n;
         test(!(1..=3).contains(&kind), 7, place);
-        test(worker as usize >= worker_count, 8, place);
-        test(field as usize >= field_count, 9, place);
-        test(kind == CROSSING && field != 0, 9, place);
+        test(worker as usize >= worker_count, 8, place + 1);
+        test(field as usize >= field_count, 9, place + 2);
+        test(kind == CROSSING && field != 0, 9, place + 2);
     }
     tests
         .into_iter()
@@ -277,16 +277,16 @@ mod tests {
     fn events_are_tested_kind_worker_field() {
         let mut rows = plain(1, 2, 2);
         rows.fields[1] = 2;
-        assert_eq!(refused(&rows), (9, 16));
+        assert_eq!(refused(&rows), (9, 18));
         rows.workers[1] = 256;
-        assert_eq!(refused(&rows), (8, 16));
+        assert_eq!(refused(&rows), (8, 17));
         rows.kinds[1] = 257;
         assert_eq!(refused(&rows), (7, 16));
         rows.fields[0] = 65_536;
-        assert_eq!(refused(&rows), (9, 12));
+        assert_eq!(refused(&rows), (9, 14));
         rows.fields[0] = 1;
         rows.kinds[0] = 3;
-        assert_eq!(refused(&rows), (9, 12));
+        assert_eq!(refused(&rows), (9, 14));
     }
 
     #[test]

@@ -10,7 +10,7 @@ use borrow.Author.Tests.{lt-ltb, le-ltb, le-leb, lt-leb, ne-eqb}
 use Rattle.events.specs.declared.Event.{Event}
 use Rattle.events.specs.declared.Event.the-variants.{Read, Write, Crossing}
 use Rattle.recording.proofs.Guarantee.{guarantee}
-use Rattle.recording.proofs.Tests.{Labels, labels-good, counted-count, counted-refused}
+use Rattle.recording.proofs.Tests.{Labels, labels-good, counted-count, counted-refused, further, event-further}
 use Rattle.recording.specs.declared.Fault.{Fault}
 use Rattle.recording.specs.declared.Fault.the-variants.{Fine, Refused}
 use Rattle.recording.specs.declared.Entry.{Entry}
@@ -89,23 +89,23 @@ not-false : (b : Bool) → not b ≡ false → b ≡ true
 not-false true e = refl
 not-false false e = let z : _≡_ {A = ℕ} 0 1 = cc in absurd (omega arith)
 
--- an event that starts at start, test by test
-module _ (W F start : ℕ) (e : Entry) (k : Bool) (q : k ≡ kindAllowed (e .kind)) where
-  pub kind-refused : not k ≡ true → Refused 7 start ≡ eventTests W F e start
+-- an event, test by test
+module _ (W F : ℕ) (e : Entry) (k : Bool) (q : k ≡ kindAllowed (e .kind)) where
+  pub kind-refused : not k ≡ true → Refused 7 0 ≡ eventTests W F e 0
   unfolding eventTests eventPlace _then_ need
   kind-refused a = rw (← q, not-true k a)
 
   module _ (a : not k ≡ false) where
-    pub worker-refused : W ≤ e .worker → Refused 8 start ≡ eventTests W F e start
+    pub worker-refused : W ≤ e .worker → Refused 8 1 ≡ eventTests W F e 0
     unfolding eventTests eventPlace _then_ need
     worker-refused l = rw (← q, not-false k a, le-ltb (e .worker) W l)
 
     module _ (l : e .worker < W) (f : Bool) (p : f ≡ fieldAllowed F (e .kind) (e .field)) where
-      pub field-refused : not f ≡ true → Refused 9 start ≡ eventTests W F e start
+      pub field-refused : not f ≡ true → Refused 9 2 ≡ eventTests W F e 0
       unfolding eventTests eventPlace _then_ need
       field-refused b = rw (← q, not-false k a, lt-ltb (e .worker) W l, ← p, not-true f b)
 
-      pub event-fine : not f ≡ false → Fine ≡ eventTests W F e start
+      pub event-fine : not f ≡ false → Fine ≡ eventTests W F e 0
       unfolding eventTests _then_ need
       event-fine b = rw (← q, not-false k a, lt-ltb (e .worker) W l, ← p, not-false f b)
 
@@ -114,14 +114,14 @@ module _ (entry : ℕ → Entry) (at W F count n : ℕ) (x : Fault) (inv : event
   to-come : n < count → count - n ≡ suc (count - (n + 1))
   to-come l = omega arith
 
-  module _ (e : Entry) (r : Fault) (l : n < count) (q : e ≡ entry n) (t : r ≡ eventTests W F e (at + 4 * n)) where
-    pub events-refused : (number place : ℕ) → r ≡ Refused number place → Refused number place ≡ x
-    unfolding eventsTests _then_
-    events-refused number place k = rw (to-come l, ← q, ← t, k) at inv
+  module _ (e : Entry) (r : Fault) (l : n < count) (q : e ≡ entry n) (t : r ≡ eventTests W F e 0) where
+    pub events-refused : (number byte : ℕ) → r ≡ Refused number byte → Refused number (at + 4 * n + byte) ≡ x
+    unfolding eventsTests _then_ further
+    events-refused number byte k = rw (to-come l, ← q, event-further W F e (at + 4 * n), ← t, k) at inv
 
     pub events-next : r ≡ Fine → eventsTests W F entry at (n + 1) (count - (n + 1)) ≡ x
-    unfolding eventsTests _then_
-    events-next k = rw (to-come l, ← q, ← t, k) at inv
+    unfolding eventsTests _then_ further
+    events-next k = rw (to-come l, ← q, event-further W F e (at + 4 * n), ← t, k) at inv
 
   pub events-end : count ≤ n → Fine ≡ x
   unfolding eventsTests

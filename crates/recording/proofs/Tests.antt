@@ -7,8 +7,9 @@ use lib.Dec.{ltb, leb}
 use borrow.Author.Tests.{leb-true, le-leb, ltb-true, ltb-false, lt-ltb}
 use Rattle.recording.specs.declared.Fault.{Fault}
 use Rattle.recording.specs.declared.Fault.the-variants.{Fine, Refused}
+use Rattle.recording.specs.declared.Entry.{Entry}
 use Rattle.recording.specs.declared.Counted.the-variants.{Refused as Counted-refused, Count}
-use Rattle.recording.specs.Tests.{need, _then_, rising, section, labelSection}
+use Rattle.recording.specs.Tests.{need, _then_, rising, kindAllowed, fieldAllowed, eventPlace, eventTests, section, labelSection}
 use Rattle.recording.specs.Parts.{counted}
 
 pub need-fine : (t : Bool) (number place : ℕ) → need t number place ≡ Fine → t ≡ true
@@ -133,6 +134,37 @@ module _ (size at count : ℕ) (label : ℕ → ℕ) (limit range order : ℕ) w
         room = g .room;
         items-fine = fine-rising label order (at + 2) 0 (count - 1) (λ n l m. g .rise n (omega arith));
       })
+
+-- a fault so many bytes further on
+unfoldable pub further : ℕ → Fault → Fault
+further start Fine = Fine
+further start (Refused number byte) = Refused number (start + byte)
+
+-- an event's tests, by what each of them finds
+abbrev found : Bool → Bool → Bool → ℕ → Fault
+found kind worker field start = need kind 7 (eventPlace 7 start) then need worker 8 (eventPlace 8 start) then need field 9 (eventPlace 9 start)
+
+-- they answer at any place what they answer at 0, so many bytes further on, and their place is one of the event's bytes
+module _ (W F : ℕ) (e : Entry) where
+  pub event-further : (start : ℕ) → eventTests W F e start ≡ further start (eventTests W F e 0)
+  unfolding eventTests eventPlace further _then_ need
+  event-further start = by (kindAllowed (e .kind)) (ltb (e .worker) W) (fieldAllowed F (e .kind) (e .field))
+    where
+      by : (kind worker field : Bool) → found kind worker field start ≡ further start (found kind worker field 0)
+      by false worker field = let z : start ≡ start + 0 = omega arith in cc
+      by true false field = refl
+      by true true false = refl
+      by true true true = refl
+
+  pub event-byte : (r : Fault) (number byte : ℕ) → r ≡ eventTests W F e 0 → r ≡ Refused number byte → byte < 4
+  unfolding eventTests eventPlace _then_ need
+  event-byte r number byte = by (kindAllowed (e .kind)) (ltb (e .worker) W) (fieldAllowed F (e .kind) (e .field))
+    where
+      by : (kind worker field : Bool) → r ≡ found kind worker field 0 → r ≡ Refused number byte → byte < 4
+      by false worker field t k = let z : 0 ≡ byte = cc in omega arith
+      by true false field t k = let z : 1 ≡ byte = cc in omega arith
+      by true true false t k = let z : 2 ≡ byte = cc in omega arith
+      by true true true t k = let z : _≡_ {A = ℕ} 0 1 = cc in absurd (omega arith)
 
 -- two lists of tests that answer the same
 pub then-same : (a a′ b b′ : Fault) → a ≡ a′ → (a ≡ Fine → b ≡ b′) → (a then b) ≡ (a′ then b′)

@@ -46,9 +46,9 @@ kindAllowed kind = eqb kind 1 || (eqb kind 2 || eqb kind 3)
 unfoldable pub fieldAllowed : ℕ → ℕ → ℕ → Bool
 fieldAllowed F kind field = cond (eqb kind 3) (eqb field 0) (ltb field F)
 
--- The place of 7, 8 and 9, for an event that starts at start: the event's first byte.
+-- The place of 7, 8 and 9, for an event that starts at start: the kind is its first byte (7), the worker its second (8), the field its third (9), also where only the field's high byte is bad.
 unfoldable pub eventPlace : ℕ → ℕ → ℕ
-eventPlace number start = start
+eventPlace number start = cond (eqb number 8) (start + 1) (cond (eqb number 9) (start + 2) start)
 
 -- Within an event: kind (7), worker (8), field (9).
 unfoldable pub eventTests : ℕ → ℕ → Entry → ℕ → Fault

@@ -27,18 +27,18 @@ fn field_allowed(fields: u32, kind: u32, field: u32) -> bool
     field < fields
 }
 
-// The tests within an event, which starts at this place.
-pub fn test_event(e: Entry, workers: u32, fields: u32, start: usize) -> Fault
-    ensures { λ r. ⌜ r ≡ eventTests workers fields e start ⌝ }
+// The tests within an event; the place is counted from the event's first byte.
+pub fn test_event(e: Entry, workers: u32, fields: u32) -> Fault
+    ensures { λ r. ⌜ r ≡ eventTests workers fields e 0 ⌝ }
 {
     if !kind_allowed(e.kind) {
-        return Fault::Refused(7, start);
+        return Fault::Refused(7, 0);
     }
     if workers <= e.worker {
-        return Fault::Refused(8, start);
+        return Fault::Refused(8, 1);
     }
     if !field_allowed(fields, e.kind, e.field) {
-        return Fault::Refused(9, start);
+        return Fault::Refused(9, 2);
     }
     Fault::Fine
 }

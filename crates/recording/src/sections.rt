@@ -66,8 +66,8 @@ fn test_events(file: &[u8], at: usize, count: usize, workers: u32, fields: u32) 
     for n in 0..count {
         let start = at + Entry::BYTES * n;
         let e = entry_at(file, start);
-        if let Fault::Refused(number, place) = test_event(e, workers, fields, start) {
-            return Fault::Refused(number, place);
+        if let Fault::Refused(number, byte) = test_event(e, workers, fields) {
+            return Fault::Refused(number, start + byte);
         }
     }
     Fault::Fine

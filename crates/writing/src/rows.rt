@@ -96,18 +96,14 @@ fn test_events(
     ensures { λ r. ⌜ r ≡ eventsTests «worker_count» «field_count» (entryOf (now (kinds .entry)) (now (workers .entry)) (now (fields .entry))) at 0 count ⌝ }
 {
     for n in 0..count {
+        let start = at + Entry::BYTES * n;
         let e = Entry {
             kind: kinds[n],
             worker: workers[n],
             field: fields[n],
         };
-        if let Fault::Refused(number, place) = test_event(
-            e,
-            worker_count,
-            field_count,
-            at + Entry::BYTES * n,
-        ) {
-            return Fault::Refused(number, place);
+        if let Fault::Refused(number, byte) = test_event(e, worker_count, field_count) {
+            return Fault::Refused(number, start + byte);
         }
     }
     Fault::Fine

@@ -1,11 +1,12 @@
 -- `test_events` answers as the events' tests do: what is still to come answers the same at each turn.
 use borrow.Author.Needs.{needs}
 use mathlib.Core.Path.{_≡_}
-use Prim.Native.Nat.{_+_, _*_, _-_, _≤_}
+use Prim.Native.Nat.{_+_, _*_, _-_, _<_, _≤_}
 use native.Mathlib.Nat.{sub-zero}
 use lib.ListN.{length}
 use Rattle.recording.specs.Tests.{eventsTests}
 use Rattle.recording.specs.File.{entriesAt}
+use Rattle.recording.proofs.Tests.{event-byte}
 use Rattle.recording.proofs.Answers.{entry-number, events-refused, events-next, events-end}
 use Rattle.recording.proofs.sections.test_events.Statement.{statement}
 use Rattle.recording.proofs.sections.test_events.Tie as tie
@@ -35,6 +36,11 @@ test-event-requires c κs = search needs
 
 enum-known-number : tie.Need-enum-known-number Inv-loop μ-loop
 enum-known-number c = search needs
+
+add-t14 : tie.Need-add-t14 Inv-loop μ-loop
+add-t14 c =
+    let small : c .before .number .given .0 .1 .0 < 4 = search event-byte in
+    search needs
 
 returns : tie.Need-returns Inv-loop μ-loop
 returns c = search (events-refused, entry-number)
@@ -66,6 +72,7 @@ test-events-spec =
     entry-at-requires
     test-event-requires
     enum-known-number
+    add-t14
     returns
     enum-told
     add-n

@@ -1,11 +1,12 @@
 -- `test_events` answers as the events' tests do: what is still to come answers the same at each turn.
 use borrow.Author.Needs.{needs}
 use mathlib.Core.Path.{_≡_}
-use Prim.Native.Nat.{_-_, _≤_}
+use Prim.Native.Nat.{_-_, _<_, _≤_}
 use native.Mathlib.Nat.{sub-zero}
 use lib.ListN.{length}
 use Rattle.recording.specs.Tests.{eventsTests}
 use Rattle.writing.specs.Writing.{entryOf}
+use Rattle.recording.proofs.Tests.{event-byte}
 use Rattle.recording.proofs.Answers.{events-refused, events-next, events-end}
 use Rattle.writing.proofs.RowTests.{entry-of}
 use Rattle.writing.proofs.rows.test_events.Statement.{statement}
@@ -20,35 +21,40 @@ abbrev μ-loop : tie.MeasureT-loop
 loop-holds : tie.Need-loop-holds Inv-loop μ-loop
 loop-holds c = search (needs, sub-zero)
 
-mul-t13 : tie.Need-mul-t13 Inv-loop μ-loop
-mul-t13 c = search needs
+mul-start : tie.Need-mul-start Inv-loop μ-loop
+mul-start c = search needs
 
-shared-slice-read-t15 : tie.Need-shared-slice-read-t15 Inv-loop μ-loop
-shared-slice-read-t15 c = search needs
+add-start : tie.Need-add-start Inv-loop μ-loop
+add-start c = search needs
 
-mul-t16 : tie.Need-mul-t16 Inv-loop μ-loop
-mul-t16 c = search needs
+mul-t14 : tie.Need-mul-t14 Inv-loop μ-loop
+mul-t14 c = search needs
 
-shared-slice-read-t18 : tie.Need-shared-slice-read-t18 Inv-loop μ-loop
-shared-slice-read-t18 c = search needs
+shared-slice-read-t16 : tie.Need-shared-slice-read-t16 Inv-loop μ-loop
+shared-slice-read-t16 c = search needs
 
-mul-t19 : tie.Need-mul-t19 Inv-loop μ-loop
-mul-t19 c = search needs
+mul-t17 : tie.Need-mul-t17 Inv-loop μ-loop
+mul-t17 c = search needs
 
-shared-slice-read-t21 : tie.Need-shared-slice-read-t21 Inv-loop μ-loop
-shared-slice-read-t21 c = search needs
+shared-slice-read-t19 : tie.Need-shared-slice-read-t19 Inv-loop μ-loop
+shared-slice-read-t19 c = search needs
 
-mul-test-event : tie.Need-mul-test-event Inv-loop μ-loop
-mul-test-event c = search needs
+mul-t20 : tie.Need-mul-t20 Inv-loop μ-loop
+mul-t20 c = search needs
 
-add-test-event : tie.Need-add-test-event Inv-loop μ-loop
-add-test-event c = search needs
+shared-slice-read-t22 : tie.Need-shared-slice-read-t22 Inv-loop μ-loop
+shared-slice-read-t22 c = search needs
 
 test-event-requires : tie.Need-test-event-requires Inv-loop μ-loop
 test-event-requires c κs = search needs
 
 enum-known-number : tie.Need-enum-known-number Inv-loop μ-loop
 enum-known-number c = search needs
+
+add-t24 : tie.Need-add-t24 Inv-loop μ-loop
+add-t24 c =
+    let small : c .before .number .given .0 .1 .0 < 4 = search event-byte in
+    search needs
 
 returns : tie.Need-returns Inv-loop μ-loop
 returns c = search (events-refused, entry-of)
@@ -75,16 +81,17 @@ test-events-spec =
     Inv-loop
     μ-loop
     loop-holds
-    mul-t13
-    shared-slice-read-t15
-    mul-t16
-    shared-slice-read-t18
-    mul-t19
-    shared-slice-read-t21
-    mul-test-event
-    add-test-event
+    mul-start
+    add-start
+    mul-t14
+    shared-slice-read-t16
+    mul-t17
+    shared-slice-read-t19
+    mul-t20
+    shared-slice-read-t22
     test-event-requires
     enum-known-number
+    add-t24
     returns
     enum-told
     add-n
