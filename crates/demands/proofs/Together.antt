@@ -6,7 +6,6 @@ use Prim.Native.Nat.{ℕ}
 use Rattle.events.specs.Verdicts.{Verdict, earlyVerdict, lateVerdict}
 use Rattle.events.specs.Reports as verdicts
 use Rattle.events.proofs.Demands.{late-reports-too, late-not-before, late-at-once, late-by-crossing, late-by-end}
-use Rattle.recording.specs.declared.Fault.{Fault}
 use Rattle.recording.specs.declared.Fault.the-variants.{Fine}
 use Rattle.recording.specs.File.{eventsIn, eventCount, workerCount, fieldCount, countsIn}
 use Rattle.recording.specs.WellFormed.{WellFormed}

@@ -6,10 +6,9 @@ use Prim.Native.Nat.{ℕ}
 use lib.ListN.{getD}
 use Rattle.events.specs.Acts.{Recording, recordingOf, before}
 use Rattle.events.specs.Clashes.{Clash, SomeAt, FirstClash}
-use Rattle.events.specs.Verdicts.{Verdict, accepted, reported, earlyVerdict}
+use Rattle.events.specs.Verdicts.{accepted, reported, earlyVerdict}
 use Rattle.events.specs.Reports.{EventNames, Exactly}
 use Rattle.events.proofs.Demands.{early-names, early-accepts}
-use Rattle.recording.specs.declared.Fault.{Fault}
 use Rattle.recording.specs.declared.Fault.the-variants.{Fine}
 use Rattle.recording.specs.File.{eventsIn, countsIn}
 use Rattle.recording.specs.WellFormed.{WellFormed}

@@ -12,7 +12,7 @@ use Rattle.events.specs.Clashes.{OnWritten, Some}
 use Rattle.events.specs.Words.{stretchWord, writerWord, readersWord}
 use Rattle.events.specs.Verdicts.{accepted, reported, firstOf, earlyLook}
 use Rattle.events.specs.Verdicts as papers
-use Rattle.events.proofs.Histories.{ActsWithin, Sound}
+use Rattle.events.proofs.Histories.{ActsWithin}
 use Rattle.events.proofs.Stretches.{some-on-written}
 use Rattle.events.proofs.Walks.{not-both}
 use Rattle.events.proofs.Early.{EventLooked, all-calm, one-met, event-looked}
@@ -28,7 +28,7 @@ use Rattle.tables.proofs.Lent.{shown-length}
 use Rattle.tables.proofs.Files.{file-sound-full, file-numbers, file-worker, file-stretch}
 use Rattle.tables.proofs.Shown.{shown-stretch}
 use Rattle.tables.proofs.Runs.{Sees, Reached, Course, reached-start, reached-next, reached-stop, reached-end, now-within, event-within, history-next, history-stop, history-end}
-use Rattle.early.specs.Steps.{meets, readersAfter, Room, Stepped}
+use Rattle.early.specs.Steps.{readersAfter, Room, Stepped}
 use Rattle.early.specs.Runs.{Shows, Ready, Ran}
 use Rattle.early.proofs.Shown.{meets-shown, shows-after}
 

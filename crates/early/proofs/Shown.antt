@@ -1,18 +1,17 @@
 -- Tables that show a history: what an event meets by the words is the early look at it, and with its acts entered they show the longer
 -- history.
 use mathlib.Core.Path.{_≡_, refl, sym}
-use mathlib.Core.Bool.{true, false, not, _&&_, and-false}
+use mathlib.Core.Bool.{not, _&&_, and-false}
 use mathlib.Core.List.{List, [], _∷_}
 use Prim.Native.Nat.{ℕ, _+_, _*_, _%_, _<_, _≤_}
 use native.Mathlib.Omega.{arith}
 use lib.Dec.{eqb, ltb}
-use lib.ListN.{getD, set}
+use lib.ListN.{getD}
 use borrow.Author.Tests.{ltb-true, ltb-false}
 use Rattle.events.specs.Acts.{Act, History, entered, reads, writes, crosses}
 use Rattle.events.specs.Stretches.{hasRead}
 use Rattle.events.specs.Clashes.{OnWritten}
 use Rattle.events.specs.Words.{writerWord, readersWord}
-use Rattle.events.specs.Search.{lowest}
 use Rattle.events.specs.Verdicts.{firstOf, otherReader, earlyBy, earlyLook}
 use Rattle.events.proofs.Tests.{bool, same}
 use Rattle.events.proofs.Search.{lowest-ext}

@@ -6,7 +6,7 @@ use lib.Dec.{T}
 use lib.ListN.{length, getD}
 use Rattle.events.specs.declared.Event.{Event}
 use Rattle.events.specs.declared.Event.the-variants.{Read, Write}
-use Rattle.events.specs.Acts.{Act, History, Recording, Within, recordingOf, before, workerOf, writes, crosses}
+use Rattle.events.specs.Acts.{Act, History, Recording, Within, recordingOf, before, workerOf, crosses}
 use Rattle.events.specs.Stretches.{hasRead, hasWritten}
 use Rattle.events.specs.Positions.{OpenSince}
 use Rattle.events.specs.Clashes.{Clash, OnWritten, Some, SomeAt, FirstClash}

@@ -19,7 +19,7 @@ use Rattle.events.proofs.Search.{found, lowest-at, lowest-none}
 use Rattle.events.proofs.Histories.{ActsWithin, ActsOf, Sound, event-sound, before-next, before-within, No, calm-before}
 use Rattle.events.proofs.Stretches.{other-read, own-clash, some-on-written, unused-read, unused-written}
 use Rattle.events.proofs.Early.{other-none, other-at}
-use Rattle.events.proofs.Walks.{verdict, not-both, Walked, to-end, stops, walked}
+use Rattle.events.proofs.Walks.{not-both, Walked, to-end, stops, walked}
 
 -- a stale read was a clash at the write
 pub calm-fresh : (h : History) → No Clash h → (w f : ℕ) → staleRead h w f ≡ false

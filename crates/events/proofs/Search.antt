@@ -3,6 +3,7 @@ use mathlib.Core.Path.{_≡_, refl}
 use mathlib.Core.Bool.{Bool, true, false, cond}
 use Prim.Native.Nat.{ℕ, zero, suc, _+_, _-_, _<_, _≤_}
 use native.Mathlib.Omega.{arith}
+use Rattle.sorts.proofs.Counting.{one-left, none-left}
 use Rattle.events.specs.Search.{Found, lowest, at, none}
 use Rattle.events.proofs.Tests.{bool, same}
 
@@ -69,17 +70,14 @@ module _ (p : ℕ → Bool) where
 
 -- A search that has come to u: what the rest from u on finds is x. b is what the test of u gave.
 module _ (p : ℕ → Bool) (n u : ℕ) (x : Found) where
-  rest : u < n → n - u ≡ suc (n - (u + 1))
-  rest l = omega arith
-
   pub search-hit : (b : Bool) → lowest p u (n - u) ≡ x → u < n → b ≡ p u → b ≡ true → at u ≡ x
   unfolding lowest
-  search-hit b i l t e = rw (rest l, ← t, e) at i
+  search-hit b i l t e = rw (one-left u n l, ← t, e) at i
 
   pub search-next : (b : Bool) → lowest p u (n - u) ≡ x → u < n → b ≡ p u → b ≡ false → lowest p (u + 1) (n - (u + 1)) ≡ x
   unfolding lowest
-  search-next b i l t e = rw (rest l, ← t, e) at i
+  search-next b i l t e = rw (one-left u n l, ← t, e) at i
 
   pub search-end : lowest p u (n - u) ≡ x → n ≤ u → none ≡ x
   unfolding lowest
-  search-end i l = let q : n - u ≡ 0 = omega arith in rw q at i
+  search-end i l = rw (none-left u n l) at i

@@ -8,6 +8,7 @@ use native.Mathlib.Omega.{arith}
 use lib.Dec.{eqb}
 use lib.ListN.{getD, set}
 use borrow.Author.Tests.{lt-ltb, le-ltb, le-leb, lt-leb, ne-eqb}
+use Rattle.sorts.proofs.Counting.{one-left, none-left}
 use Rattle.sorts.specs.declared.Worker.{Worker}
 use Rattle.sorts.specs.declared.Field.{Field}
 use Rattle.sorts.specs.Words.{joined, workerIn}
@@ -65,27 +66,24 @@ staleFrom F Lg Vr Wr n w f = staleOr w (lowest (staleWords Lg Vr Wr w) f (F - f)
 module _ (F : ℕ) (Lg Vr Wr : List ℕ) (n w : ℕ) (x : Stale) where
   pub search-worker : firstStale F Lg Vr Wr w (n - w) ≡ x → w < n → staleFrom F Lg Vr Wr n w 0 ≡ x
   unfolding firstStale staleFrom
-  search-worker i l = let q : n - w ≡ suc (n - (w + 1)) = omega arith in rw sub-zero (rw q at i)
+  search-worker i l = rw sub-zero (rw (one-left w n l) at i)
 
   pub search-over : (found : Stale) → firstStale F Lg Vr Wr w (n - w) ≡ x → n ≤ w → found ≡ Nowhere → found ≡ x
   unfolding firstStale
-  search-over found i l e = let q : n - w ≡ 0 = omega arith in e ∙ (rw q at i)
+  search-over found i l e = e ∙ (rw (none-left w n l) at i)
 
   module _ (f : ℕ) (i : staleFrom F Lg Vr Wr n w f ≡ x) where
-    rest : f < F → F - f ≡ suc (F - (f + 1))
-    rest l = omega arith
-
     pub field-stale : (b : Bool) → f < F → b ≡ staleWords Lg Vr Wr w f → b ≡ true → At (record { 0 = w }) (record { 0 = f }) ≡ x
     unfolding lowest staleFrom
-    field-stale b l t e = rw (rest l, ← t, e) at i
+    field-stale b l t e = rw (one-left f F l, ← t, e) at i
 
     pub field-fresh : (b : Bool) → f < F → b ≡ staleWords Lg Vr Wr w f → b ≡ false → staleFrom F Lg Vr Wr n w (f + 1) ≡ x
     unfolding lowest staleFrom
-    field-fresh b l t e = rw (rest l, ← t, e) at i
+    field-fresh b l t e = rw (one-left f F l, ← t, e) at i
 
     pub fields-over : F ≤ f → firstStale F Lg Vr Wr (w + 1) (n - (w + 1)) ≡ x
     unfolding lowest staleFrom
-    fields-over l = let q : F - f ≡ 0 = omega arith in rw q at i
+    fields-over l = rw (none-left f F l) at i
 
 -- the same search of one worker
 module _ (F : ℕ) (Lg Vr Wr : List ℕ) (w : Worker) where

@@ -12,7 +12,7 @@ use Rattle.events.specs.Clashes.{OnWritten, Some}
 use Rattle.events.specs.Words.{writerWord, versionWord, logWord}
 use Rattle.events.specs.Verdicts.{accepted, reported, firstOf, staleField, endBy, lateLook}
 use Rattle.events.specs.Verdicts as papers
-use Rattle.events.proofs.Histories.{ActsWithin, Sound}
+use Rattle.events.proofs.Histories.{ActsWithin}
 use Rattle.events.proofs.Walks.{not-both}
 use Rattle.events.proofs.Late.{LateLooked, passed, stopped, late-looked, EndLooked, all-passed, one-stopped, end-looked}
 use Rattle.recording.specs.declared.Counts.{Counts}

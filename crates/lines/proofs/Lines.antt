@@ -13,7 +13,8 @@ use Rattle.sorts.specs.declared.Field.{Field}
 use Rattle.tables.specs.declared.Answer.{Answer}
 use Rattle.tables.specs.declared.Answer.the-variants.{Refused, Accepted, Reported}
 use Rattle.tables.specs.Answers.{saidBy}
-use Rattle.lines.specs.Text.{ascii, decimal, rest, line, Puts, Starts}
+use Rattle.bytes.specs.Characters.{ascii}
+use Rattle.lines.specs.Text.{decimal, rest, line, Puts, Starts}
 use Rattle.lines.specs.Lines.{traceLine, refusedLine, otherLabel, verdictLine, answerLine, reportLines}
 use Rattle.lines.proofs.Text.{then-puts, looser, puts-starts}
 

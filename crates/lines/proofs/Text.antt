@@ -11,9 +11,10 @@ use lib.ListN.{length, getD, set, take, drop, length-append, take-append-drop}
 use lib.Seq.{paste, paste-zero, paste-suc, take-at, drop-at, take-all}
 use borrow.Author.Tests.{lt-ltb, le-ltb, leb-true, leb-false}
 use Rattle.io.specs.Digits.{digits, Fewest}
-use Rattle.recording.specs.Buffer.{put}
-use Rattle.recording.proofs.Buffer.{length-put, put-put}
-use Rattle.lines.specs.Text.{ascii, spelled, decimal, Puts, Starts}
+use Rattle.bytes.specs.Buffer.{put}
+use Rattle.bytes.proofs.Buffer.{length-put, put-put}
+use Rattle.bytes.specs.Characters.{ascii}
+use Rattle.lines.specs.Text.{spelled, decimal, Puts, Starts}
 
 -- the first i bytes of a text copied into a buffer
 unfoldable pub copied : List ℕ → ℕ → List ℕ → ℕ → List ℕ

@@ -7,7 +7,8 @@ use Rattle.events.specs.Search.{lowest}
 use Rattle.events.specs.Verdicts.{firstOf, walk, endBy}
 use Rattle.recording.specs.Tests.{need, _then_, rising, kindAllowed, fieldAllowed, eventTests, eventsTests, section, labelSection, eventSection, endTest, eventsToEnd, fileTests, allTests}
 use Rattle.recording.specs.File.{numberAt, labelAt, entryAt, entriesAt, eventOf, workerCount, fieldCount, eventCount, workerLabel, fieldLabel, entryIn, eventAt, eventsFrom, eventsIn, refusal}
-use Rattle.lines.specs.Text.{ascii, decimal, spelled, rest, line}
+use Rattle.bytes.specs.Characters.{ascii}
+use Rattle.lines.specs.Text.{decimal, spelled, rest, line}
 use Rattle.lines.specs.Lines.{traceLine, verdictLine, otherLabel, reportLines, printedAfter, printed}
 
 pub example : printed

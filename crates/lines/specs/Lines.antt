@@ -10,7 +10,8 @@ use Rattle.recording.specs.declared.Counts.{Counts}
 use Rattle.recording.specs.File.{refusal, countsIn, workerCount, fieldCount, eventsIn, workerLabel, fieldLabel}
 use Rattle.tables.specs.Answers.{Said, judged}
 use Rattle.tables.specs.Answers as answers
-use Rattle.lines.specs.Text.{ascii, decimal, line}
+use Rattle.bytes.specs.Characters.{ascii}
+use Rattle.lines.specs.Text.{decimal, line}
 
 -- The first line holds the worker, field and event counts.
 unfoldable pub traceLine : Counts → List ℕ

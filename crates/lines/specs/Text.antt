@@ -4,16 +4,11 @@ use mathlib.Core.Bool.{cond}
 use mathlib.Core.List.{List, [], _∷_, _++_}
 use Prim.Native.Nat.{ℕ, zero, suc, _+_, _/_, _%_, _≤_}
 use Prim.Native.Char.{code}
-use Prim.Native.String.{String, [] as none, _∷_ as _before_}
 use lib.Dec.{ltb}
 use lib.ListN.{length, take, drop}
 use Rattle.io.specs.Counts.{Counts}
-use Rattle.recording.specs.Buffer.{put}
-
--- a text's characters, by their numbers
-abbrev pub ascii : String → List ℕ
-ascii none = []
-ascii (c before more) = code c ∷ ascii more
+use Rattle.bytes.specs.Buffer.{put}
+use Rattle.bytes.specs.Characters.{ascii}
 
 abbrev pub digit : ℕ → ℕ
 digit d = code "0" + d

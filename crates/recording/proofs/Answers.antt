@@ -2,11 +2,12 @@
 use mathlib.Core.Path.{_≡_, refl, sym, _∙_}
 use mathlib.Core.Bool.{Bool, true, false, not, and-false}
 use mathlib.Core.List.{List}
-use Prim.Native.Nat.{ℕ, suc, _+_, _*_, _-_, _<_, _≤_}
+use Prim.Native.Nat.{ℕ, _+_, _*_, _-_, _<_, _≤_}
 use native.Mathlib.Omega.{arith}
 use lib.Dec.{eqb, ltb, leb}
 use lib.ListN.{length, getD, List·getD-eq-default}
 use borrow.Author.Tests.{lt-ltb, le-ltb, le-leb, lt-leb, ne-eqb}
+use Rattle.sorts.proofs.Counting.{one-left, none-left}
 use Rattle.events.specs.declared.Event.{Event}
 use Rattle.events.specs.declared.Event.the-variants.{Read, Write, Crossing}
 use Rattle.recording.proofs.Guarantee.{guarantee}
@@ -34,21 +35,18 @@ label-first s at r q = let z : at + 0 ≡ at = omega arith in rw z q
 
 -- labels looked at up to label n, follow - n of them to come, which answer x
 module _ (label : ℕ → ℕ) (at number follow n : ℕ) (x : Fault) (inv : rising label number at n (follow - n) ≡ x) where
-  left : n < follow → follow - n ≡ suc (follow - (n + 1))
-  left l = omega arith
-
   pub labels-fall : (before later : ℕ) → n < follow → before ≡ label n → later ≡ label (n + 1) → later ≤ before → Refused number (at + 2 * (n + 1)) ≡ x
   unfolding rising _then_ need
-  labels-fall before later l q r m = rw (left l, le-ltb (label n) (label (n + 1)) (omega arith)) at inv
+  labels-fall before later l q r m = rw (one-left n follow l, le-ltb (label n) (label (n + 1)) (omega arith)) at inv
 
   pub labels-rise : (before later : ℕ) → n < follow → before ≡ label n → later ≡ label (n + 1) → before < later
       → rising label number at (n + 1) (follow - (n + 1)) ≡ x
   unfolding rising _then_ need
-  labels-rise before later l q r m = rw (left l, lt-ltb (label n) (label (n + 1)) (omega arith)) at inv
+  labels-rise before later l q r m = rw (one-left n follow l, lt-ltb (label n) (label (n + 1)) (omega arith)) at inv
 
   pub labels-end : follow ≤ n → Fine ≡ x
   unfolding rising
-  labels-end l = let q : follow - n ≡ 0 = omega arith in rw q at inv
+  labels-end l = rw (none-left n follow l) at inv
 
 pub label-next : (s : List ℕ) (at n r : ℕ) → r ≡ numberAt s (at + 2 * (n + 1)) → r ≡ labelAt s at (n + 1)
 unfolding labelAt
@@ -111,21 +109,18 @@ module _ (W F : ℕ) (e : Entry) (k : Bool) (q : k ≡ kindAllowed (e .kind)) wh
 
 -- events looked at before event n, count - n of them to come, which answer x
 module _ (entry : ℕ → Entry) (at W F count n : ℕ) (x : Fault) (inv : eventsTests W F entry at n (count - n) ≡ x) where
-  to-come : n < count → count - n ≡ suc (count - (n + 1))
-  to-come l = omega arith
-
   module _ (e : Entry) (r : Fault) (l : n < count) (q : e ≡ entry n) (t : r ≡ eventTests W F e 0) where
     pub events-refused : (number byte : ℕ) → r ≡ Refused number byte → Refused number (at + 4 * n + byte) ≡ x
     unfolding eventsTests _then_ further
-    events-refused number byte k = rw (to-come l, ← q, event-further W F e (at + 4 * n), ← t, k) at inv
+    events-refused number byte k = rw (one-left n count l, ← q, event-further W F e (at + 4 * n), ← t, k) at inv
 
     pub events-next : r ≡ Fine → eventsTests W F entry at (n + 1) (count - (n + 1)) ≡ x
     unfolding eventsTests _then_ further
-    events-next k = rw (to-come l, ← q, event-further W F e (at + 4 * n), ← t, k) at inv
+    events-next k = rw (one-left n count l, ← q, event-further W F e (at + 4 * n), ← t, k) at inv
 
   pub events-end : count ≤ n → Fine ≡ x
   unfolding eventsTests
-  events-end l = let q : count - n ≡ 0 = omega arith in rw q at inv
+  events-end l = rw (none-left n count l) at inv
 
 pub entry-number : (s : List ℕ) (at n : ℕ) (e : Entry) → e ≡ entryAt s (at + 4 * n) → e ≡ entriesAt s at n
 unfolding entriesAt

@@ -6,6 +6,7 @@ use Prim.Native.Nat.{ℕ, zero, suc, _+_, _*_, _-_, _<_, _≤_}
 use native.Mathlib.Nat.{sub-zero}
 use native.Mathlib.Omega.{arith}
 use lib.ListN.{length, drop, drop-of-length-le}
+use Rattle.sorts.proofs.Counting.{one-left}
 use Rattle.events.specs.Acts.{Within, EventWithin}
 use Rattle.recording.specs.declared.Entry.{Entry}
 use Rattle.recording.specs.declared.Counts.{Counts}
@@ -32,9 +33,8 @@ events-drop s (suc j) n (suc k) l =
 events-next : (s : List ℕ) (n k : ℕ) → n < k → drop n (eventsFrom s 0 k) ≡ eventAt s n ∷ drop (n + 1) (eventsFrom s 0 k)
 unfolding eventsFrom
 events-next s n k l =
-    let q : k - n ≡ suc (k - (n + 1)) = omega arith in
     let z : (j : ℕ) → 0 + j ≡ j = λ j. omega arith in
-    rw (events-drop s n 0 k (omega arith), events-drop s (n + 1) 0 k (omega arith), q, z n, z (n + 1))
+    rw (events-drop s n 0 k (omega arith), events-drop s (n + 1) 0 k (omega arith), one-left n k l, z n, z (n + 1))
 
 events-end : (s : List ℕ) (k : ℕ) → drop k (eventsFrom s 0 k) ≡ []
 events-end s k = let q = events-length s 0 k in drop-of-length-le (eventsFrom s 0 k) {i = k} (omega arith)

@@ -6,4 +6,3 @@ pub mod Guarantee
 pub mod Reading
 pub mod Longer
 pub mod Answers
-pub mod Buffer

@@ -11,7 +11,7 @@ use borrow.Author.Tests.{lt-leb, leb-true, ltb-true, ltb-false}
 use Rattle.recording.specs.declared.Fault.{Fault}
 use Rattle.recording.specs.declared.Fault.the-variants.{Fine, Refused}
 use Rattle.recording.specs.declared.Entry.{Entry}
-use Rattle.recording.specs.Tests.{need, _then_, rising, eventsTests, labelSection, eventSection, endTest, eventsToEnd, fieldsAt, eventsAt, fileSize, fileTests, allTests}
+use Rattle.recording.specs.Tests.{need, rising, eventsTests, labelSection, eventSection, endTest, eventsToEnd, fieldsAt, eventsAt, fileSize, fileTests, allTests}
 use Rattle.recording.specs.File.{numberAt, labelAt, entryAt, entriesAt, workerCount, fieldCount, eventCount, workerLabel, fieldLabel, entryIn, refusal, countsIn, answered, checked}
 use Rattle.recording.proofs.Tests.{need-fine, then-same, section-same, section-passed, labels-good, and-both}
 use Rattle.recording.proofs.WellFormed.{fine-well-formed}

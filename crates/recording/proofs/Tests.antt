@@ -9,7 +9,7 @@ use Rattle.recording.specs.declared.Fault.{Fault}
 use Rattle.recording.specs.declared.Fault.the-variants.{Fine, Refused}
 use Rattle.recording.specs.declared.Entry.{Entry}
 use Rattle.recording.specs.declared.Counted.the-variants.{Refused as Counted-refused, Count}
-use Rattle.recording.specs.Tests.{need, _then_, rising, kindAllowed, fieldAllowed, eventPlace, eventTests, section, labelSection}
+use Rattle.recording.specs.Tests.{need, _then_, eventBytes, rising, kindAllowed, fieldAllowed, eventPlace, eventTests, section, labelSection}
 use Rattle.recording.specs.Parts.{counted}
 
 pub need-fine : (t : Bool) (number place : ℕ) → need t number place ≡ Fine → t ≡ true
@@ -156,11 +156,11 @@ module _ (W F : ℕ) (e : Entry) where
       by true true false = refl
       by true true true = refl
 
-  pub event-byte : (r : Fault) (number byte : ℕ) → r ≡ eventTests W F e 0 → r ≡ Refused number byte → byte < 4
+  pub event-byte : (r : Fault) (number byte : ℕ) → r ≡ eventTests W F e 0 → r ≡ Refused number byte → byte < eventBytes
   unfolding eventTests eventPlace _then_ need
   event-byte r number byte = by (kindAllowed (e .kind)) (ltb (e .worker) W) (fieldAllowed F (e .kind) (e .field))
     where
-      by : (kind worker field : Bool) → r ≡ found kind worker field 0 → r ≡ Refused number byte → byte < 4
+      by : (kind worker field : Bool) → r ≡ found kind worker field 0 → r ≡ Refused number byte → byte < eventBytes
       by false worker field t k = let z : 0 ≡ byte = cc in omega arith
       by true false field t k = let z : 1 ≡ byte = cc in omega arith
       by true true false t k = let z : 2 ≡ byte = cc in omega arith

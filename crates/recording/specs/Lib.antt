@@ -2,5 +2,4 @@
 pub mod Tests
 pub mod File
 pub mod WellFormed
-pub mod Buffer
 pub mod Parts

@@ -1,2 +1,3 @@
--- Laws of the sorts of number.
+-- Laws of the sorts of number, and of counting.
 pub mod Words
+pub mod Counting

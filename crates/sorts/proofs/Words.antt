@@ -1,6 +1,6 @@
 -- Joining and parting a writer word undo each other.
 use mathlib.Core.Path.{_≡_}
-use Prim.Native.Nat.{ℕ, _+_, _*_, _<_}
+use Prim.Native.Nat.{ℕ, _<_}
 use native.Mathlib.Omega.{arith}
 use Rattle.sorts.specs.Words.{joined, stretchIn, workerIn}
 

@@ -1,7 +1,7 @@
 -- Laws of a row that is filled with values, one after another, as long as there is room.
 use mathlib.Core.Path.{_≡_, refl, sym}
 use mathlib.Core.List.{List, [], _∷_, _++_, append-nil}
-use Prim.Native.Nat.{ℕ, suc, _+_, _-_, _<_, _≤_}
+use Prim.Native.Nat.{ℕ, _+_, _-_, _<_, _≤_}
 use native.Mathlib.Nat.{sub-zero}
 use native.Mathlib.Numerals.{add-one}
 use native.Mathlib.Omega.{arith}
@@ -9,6 +9,7 @@ use lib.Dec.{ltb, leb}
 use lib.ListN.{length, take, drop, set, length-set, take-append-drop}
 use lib.Seq.{length-take-le, take-suc-set, drop-set-lt, drop-drop, append-snoc, take-nil}
 use borrow.Author.Tests.{lt-ltb, le-ltb, ltb-true, ltb-false, leb-true}
+use Rattle.sorts.proofs.Counting.{one-left, none-left}
 use Rattle.events.proofs.Tests.{bool}
 use Rattle.writing.specs.Writing.{Rows, rowsGiven}
 use Rattle.spelling.specs.declared.Number.{Number}
@@ -45,7 +46,7 @@ held-value all more lent row n x h =
     bool (ltb n (length row))
     (λ t.
     let l = ltb-true n (length row) t in
-    let room : length lent - n ≡ suc (length lent - (n + 1)) = omega (arith, h .same) in
+    let room = one-left n (length lent) (rw (h .same) at l) in
     let next : take (n + 1) (set row n x) ≡ take n row ++ (x ∷ []) = rw add-one (take-suc-set row n x l) in
     let before : take n row ++ x ∷ take (length lent - (n + 1)) more ≡ all = rw room at (h .so-far) in
     let after : drop (n + 1) row ≡ drop (n + 1) lent = rw (← drop-drop 1 n row, ← drop-drop 1 n lent, h .others) in
@@ -58,7 +59,7 @@ held-value all more lent row n x h =
     }))
     (λ t.
     let l = ltb-false n (length row) t in
-    let full : length lent - n ≡ 0 = omega (arith, h .same) in
+    let full = none-left n (length lent) (rw (h .same) at l) in
     let before : take n row ++ [] ≡ all = rw full at (h .so-far) in
     rw t (record { low = h .low; same = h .same; so-far = rw full before; others = h .others }))
 

@@ -4,12 +4,12 @@ use mathlib.Core.Bool.{Bool, true, false, cond, not, _&&_, and-false}
 use mathlib.Core.List.{List, [], _∷_}
 use Prim.Native.Nat.{ℕ, suc, _+_, _-_, _<_, _≤_}
 use native.Mathlib.Nat.{sub-zero}
-use native.Mathlib.Omega.{arith}
 use types.Run.{OneOf, miss}
 use denote.Enum.Declared.{tagOf}
 use lib.Dec.{ltb}
 use lib.ListN.{length, getD, take, drop}
 use borrow.Author.Tests.{lt-ltb, le-ltb, le-leb, lt-leb, not-true, not-false}
+use Rattle.sorts.proofs.Counting.{one-left, none-left}
 use Rattle.events.proofs.Tests.{bool, and-right}
 use Rattle.recording.specs.declared.Entry.{Entry}
 use Rattle.spelling.specs.declared.Number.{Number}
@@ -162,28 +162,25 @@ module _ (text : List ℕ) (heading : Heading) (start i : ℕ) where
       (λ t. rw (q, t, and-right (ltb start i) (blankAt text i) t))
       (λ t. rw (q, t))
 
-  more : i < length text + 1 → length text + 1 - i ≡ suc (length text + 1 - (i + 1))
-  more l = omega arith
-
   module _ (so-far : badFrom text heading start i ≡ judged text) where
     pub judged-bad : (step : Step) → i < length text + 1 → step ≡ stepAt text heading start i → step .word ≡ Bad → BadAt start ≡ judged text
     unfolding badFrom
-    judged-bad step l q e = rw (more l, bad-step (length text + 1 - (i + 1)) step q, e) at so-far
+    judged-bad step l q e = rw (one-left i (length text + 1) l, bad-step (length text + 1 - (i + 1)) step q, e) at so-far
 
     pub judged-next : (step : Step) → i < length text + 1 → step ≡ stepAt text heading start i → OneOf (0 ∷ 1 ∷ 2 ∷ 3 ∷ 4 ∷ []) (tagOf word-type (step .word))
         → badFrom text (step .heading) (step .start) (i + 1) ≡ judged text
     unfolding badFrom
-    judged-next step l q k = rw (more l, bad-step (length text + 1 - (i + 1)) step q, not-bad (step .word) k) at so-far
+    judged-next step l q k = rw (one-left i (length text + 1) l, bad-step (length text + 1 - (i + 1)) step q, not-bad (step .word) k) at so-far
 
     pub judged-end : length text + 1 ≤ i → Fine ≡ judged text
     unfolding badFrom wordsFrom firstBad
-    judged-end l = let none : length text + 1 - i ≡ 0 = omega arith in rw none at so-far
+    judged-end l = rw (none-left i (length text + 1) l) at so-far
 
   pub values-next : (part : Part) (step : Step) (v : Number) → i < length text + 1 → step ≡ stepAt text heading start i → v ≡ valueOf part (step .word)
       → valuesFrom part text heading start i ≡ inFront v (valuesFrom part text (step .heading) (step .start) (i + 1))
   unfolding valuesFrom
-  values-next part step v l q r = rw (more l, values-step part (length text + 1 - (i + 1)) step q, ← r)
+  values-next part step v l q r = rw (one-left i (length text + 1) l, values-step part (length text + 1 - (i + 1)) step q, ← r)
 
   pub values-end : (part : Part) → length text + 1 ≤ i → valuesFrom part text heading start i ≡ []
   unfolding valuesFrom wordsFrom valuesIn
-  values-end part l = let none : length text + 1 - i ≡ 0 = omega arith in rw none
+  values-end part l = rw (none-left i (length text + 1) l)

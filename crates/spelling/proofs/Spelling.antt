@@ -16,7 +16,8 @@ use Rattle.spelling.specs.declared.Heading.{Heading}
 use Rattle.spelling.specs.declared.Heading.the-variants.{Before, Workers, Fields, Events}
 use Rattle.spelling.specs.declared.Word.{Word}
 use Rattle.spelling.specs.declared.Word.the-variants.{Opens, WorkerLabel, FieldLabel, Event, Bad}
-use Rattle.spelling.specs.Notation.{ascii, same, numberAfter, numberOf, dotIn, eventBy, accessOf, eventOf, entryUnder, wordUnder}
+use Rattle.bytes.specs.Characters.{ascii}
+use Rattle.spelling.specs.Notation.{same, numberAfter, numberOf, dotIn, eventBy, accessOf, eventOf, entryUnder, wordUnder}
 
 -- the rest of a word from byte i on
 unfoldable pub rest : List ℕ → ℕ → List ℕ

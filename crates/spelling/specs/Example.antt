@@ -1,7 +1,8 @@
 -- The example of document 01 in its notation: case d with worker labels 10 and 11 and field label 7.
 use mathlib.Core.Path.{_≡_, refl}
 use mathlib.Core.List.{[], _∷_}
-use Rattle.spelling.specs.Notation.{ascii, same, numberAfter, numberOf, dotIn, accessOf, eventOf, entryUnder, wordUnder, blankAt, wordsFrom, words, firstBad, valuesIn, judged, rowsIn, bad, rows, said}
+use Rattle.bytes.specs.Characters.{ascii}
+use Rattle.spelling.specs.Notation.{same, numberAfter, numberOf, dotIn, accessOf, eventOf, entryUnder, wordUnder, blankAt, wordsFrom, words, firstBad, valuesIn, judged, rowsIn, bad, rows, said}
 
 pub example : said (ascii "workers 10 11\nfields 7\nevents R0.0 W1.0 B1 B0\n")
     ≡ rows

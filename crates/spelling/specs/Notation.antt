@@ -3,9 +3,9 @@ use mathlib.Core.Bool.{Bool, true, false, cond, _&&_, _||_}
 use mathlib.Core.List.{List, [], _∷_}
 use Prim.Native.Nat.{ℕ, zero, suc, _+_, _-_, _*_}
 use Prim.Native.Char.{code}
-use Prim.Native.String.{String, [] as none, _∷_ as _before_}
 use lib.Dec.{eqb, ltb, leb}
 use lib.ListN.{length, getD, take, drop}
+use Rattle.bytes.specs.Characters.{ascii}
 use Rattle.recording.specs.declared.Entry.{Entry}
 use Rattle.writing.specs.Writing.{Rows}
 use Rattle.spelling.specs.declared.Number.{Number}
@@ -18,11 +18,6 @@ use Rattle.spelling.specs.declared.Part.{Part}
 use Rattle.spelling.specs.declared.Part.the-variants.{WorkerLabels, FieldLabels, EventKinds, EventWorkers, EventFields}
 use Rattle.spelling.specs.declared.Judged.{Judged}
 use Rattle.spelling.specs.declared.Judged.the-variants.{Fine, BadAt}
-
--- a text's characters, by their numbers
-abbrev pub ascii : String → List ℕ
-ascii none = []
-ascii (c before more) = code c ∷ ascii more
 
 -- Words are separated by blanks: space, tab, line end, carriage return, comma.
 abbrev pub isBlank : ℕ → Bool

@@ -4,8 +4,6 @@ use Prim.Native.Nat.{ℕ}
 use native.Mathlib.Omega.{arith}
 use Rattle.sorts.specs.declared.Worker.{Worker}
 use Rattle.sorts.specs.declared.Field.{Field}
-use Rattle.events.specs.Search.{at, none}
-use Rattle.events.specs.Verdicts.{accepted, reported}
 use Rattle.tables.specs.declared.Other.{Other}
 use Rattle.tables.specs.declared.Other.the-variants.{Worker as Other-worker, Nobody}
 use Rattle.tables.specs.declared.Answer.{Answer}

@@ -1,20 +1,19 @@
 -- Stretch and writer words that show a history: what they say of open stretches is what the history says, and with an act entered they
 -- show the longer history.
 use mathlib.Core.Path.{_≡_, refl, sym, _∙_}
-use mathlib.Core.Bool.{true, false, not, _&&_}
+use mathlib.Core.Bool.{true, not, _&&_}
 use mathlib.Core.List.{List, [], _∷_}
 use Prim.Native.Nat.{ℕ, _+_, _*_, _/_, _%_, _<_, _≤_}
 use native.Mathlib.Numerals.{add-one}
 use native.Mathlib.Omega.{arith}
 use lib.Dec.{eqb, ltb}
-use lib.ListN.{length, getD, set}
+use lib.ListN.{length, getD}
 use borrow.Author.Tests.{lt-ltb, le-ltb, eq-eqb, ne-eqb, ltb-true, ltb-false, eqb-true}
 use Rattle.sorts.specs.Words.{joined}
 use Rattle.events.specs.Acts.{Act, History, reads, writes, crosses}
 use Rattle.events.specs.Stretches.{stretchOf, hasWritten}
 use Rattle.events.specs.Clashes.{OnWritten}
 use Rattle.events.specs.Words.{stretchWord, writerWord}
-use Rattle.events.specs.Search.{lowest, at}
 use Rattle.events.specs.Verdicts.{otherWriter}
 use Rattle.events.proofs.Tests.{bool, same, and-right}
 use Rattle.events.proofs.Search.{lowest-only}

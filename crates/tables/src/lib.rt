@@ -1,7 +1,7 @@
 // The tables lent to the finders: the stretch and writer words that both keep, and what they say of open stretches.
 // Everything here goes by the words alone, whatever they are.
 ghost use mathlib.Core.Path.{_≡_};
-ghost use Prim.Native.Nat.{_+_, _*_, _<_, _≤_};
+ghost use Prim.Native.Nat.{_+_, _<_, _≤_};
 ghost use lib.ListN.{length, getD, set};
 ghost use Rattle.sorts.specs.Words.{joined};
 ghost use Rattle.tables.specs.Answers.{foundOf, verdictOf, judged, saidBy};

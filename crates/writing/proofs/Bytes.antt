@@ -6,10 +6,10 @@ use native.Mathlib.Numerals.{add-one}
 use native.Mathlib.Omega.{arith}
 use lib.ListN.{length, getD, length-append}
 use Rattle.recording.specs.declared.Entry.{Entry}
-use Rattle.recording.specs.Buffer.{put}
+use Rattle.bytes.specs.Buffer.{put}
 use Rattle.writing.specs.Writing.{numberOf, entryOf, twoBytes, entryBytes, items, sectionOf}
 use Rattle.writing.specs.Parts.{labelBytes, eventBytesOf, EntryFits, LabelsFit, EntriesFit}
-use Rattle.recording.proofs.Buffer.{put-put, put-nothing}
+use Rattle.bytes.proofs.Buffer.{put-put, put-nothing}
 
 -- items that have m bytes each
 module _ (bytes : ℕ → List ℕ) (m : ℕ) (each : (j : ℕ) → length (bytes j) ≡ m) where

@@ -7,6 +7,7 @@ use native.Mathlib.Omega.{arith}
 use lib.Dec.{ltb}
 use lib.ListN.{length, getD}
 use borrow.Author.Tests.{lt-ltb, le-ltb, le-leb, lt-leb, ltb-true, ltb-false}
+use Rattle.sorts.proofs.Counting.{one-left, none-left}
 use Rattle.events.proofs.Tests.{bool}
 use Rattle.recording.specs.declared.Fault.{Fault}
 use Rattle.recording.specs.declared.Fault.the-variants.{Fine, Refused}
@@ -56,20 +57,17 @@ module _ (a b : ℕ) where
 
 -- labels before label n are two-byte values, count - n of them to come, of which x is the first that is none
 module _ (label : ℕ → ℕ) (count n x : ℕ) (inv : n + fitting label n (count - n) ≡ x) where
-  left : n < count → count - n ≡ suc (count - (n + 1))
-  left l = omega arith
-
   pub fits-not : (y : ℕ) → n < count → y ≡ label n → 65535 < y → n ≡ x
   unfolding fitting
-  fits-not y l q m = let z = rw (left l, le-ltb (label n) 65536 (omega arith)) at inv in omega arith
+  fits-not y l q m = let z = rw (one-left n count l, le-ltb (label n) 65536 (omega arith)) at inv in omega arith
 
   pub fits-next : (y : ℕ) → n < count → y ≡ label n → y ≤ 65535 → n + 1 + fitting label (n + 1) (count - (n + 1)) ≡ x
   unfolding fitting
-  fits-next y l q m = let z = rw (left l, lt-ltb (label n) 65536 (omega arith)) at inv in omega arith
+  fits-next y l q m = let z = rw (one-left n count l, lt-ltb (label n) 65536 (omega arith)) at inv in omega arith
 
   pub fits-end : n ≤ count → count ≤ n → count ≡ x
   unfolding fitting
-  fits-end l m = let z : count - n ≡ 0 = omega arith in let y = rw z at inv in omega arith
+  fits-end l m = let y = rw (none-left n count m) at inv in omega arith
 
 pub fits-first : (label : ℕ → ℕ) (count : ℕ) → 0 + fitting label 0 (count - 0) ≡ fitting label 0 count
 fits-first label count = let z : count - 0 ≡ count = omega arith in rw z (omega arith)

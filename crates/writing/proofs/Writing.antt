@@ -14,12 +14,12 @@ use Rattle.writing.specs.declared.Written.the-variants.{Refused as Writt
 use Rattle.recording.specs.Tests.{need, _then_, Contents}
 use Rattle.recording.specs.WellFormed.{Good, Formed}
 use Rattle.recording.specs.WellFormed.Good.{read, write, crossing}
-use Rattle.recording.specs.Buffer.{put}
+use Rattle.bytes.specs.Buffer.{put}
 use Rattle.writing.specs.Writing.{Rows, rowsGiven, numberOf, longest, shortest, fittingIn, reach, contentsOf, sizeOf, rowsTests, writeTests, twoBytes, entryBytes, sectionOf, fileOf, Writes}
 use Rattle.writing.specs.Parts.{labelBytes, eventBytesOf, EntryFits, LabelsFit, EntriesFit}
 use Rattle.recording.proofs.WellFormed.{fine-formed}
 use Rattle.writing.proofs.RowTests.{either, fitting-all, between}
-use Rattle.recording.proofs.Buffer.{put-put, put-start}
+use Rattle.bytes.proofs.Buffer.{put-put, put-start}
 use Rattle.writing.proofs.Bytes.{length-section}
 
 -- a file is as long as its counts say

@@ -4,7 +4,7 @@ ghost use mathlib.Core.Path.{_≡_};
 ghost use mathlib.Core.List.{[], _∷_};
 ghost use Prim.Native.Nat.{_+_, _*_, _<_, _≤_};
 ghost use lib.ListN.{length};
-ghost use Rattle.recording.specs.Buffer.{put};
+ghost use Rattle.bytes.specs.Buffer.{put};
 ghost use Rattle.writing.specs.Writing.{twoBytes, entryBytes, items, sectionOf};
 ghost use Rattle.writing.specs.Parts.{labelBytes, eventBytesOf, LabelsFit, EntryFits, EntriesFit};
 

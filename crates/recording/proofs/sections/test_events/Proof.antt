@@ -4,7 +4,7 @@ use mathlib.Core.Path.{_≡_}
 use Prim.Native.Nat.{_+_, _*_, _-_, _<_, _≤_}
 use native.Mathlib.Nat.{sub-zero}
 use lib.ListN.{length}
-use Rattle.recording.specs.Tests.{eventsTests}
+use Rattle.recording.specs.Tests.{eventBytes, eventsTests}
 use Rattle.recording.specs.File.{entriesAt}
 use Rattle.recording.proofs.Tests.{event-byte}
 use Rattle.recording.proofs.Answers.{entry-number, events-refused, events-next, events-end}
@@ -39,7 +39,7 @@ enum-known-number c = search needs
 
 add-t14 : tie.Need-add-t14 Inv-loop μ-loop
 add-t14 c =
-    let small : c .before .number .given .0 .1 .0 < 4 = search event-byte in
+    let small : c .before .number .given .0 .1 .0 < eventBytes = search event-byte in
     search needs
 
 returns : tie.Need-returns Inv-loop μ-loop

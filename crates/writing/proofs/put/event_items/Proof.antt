@@ -3,7 +3,7 @@ use borrow.Author.Needs.{needs}
 use mathlib.Core.Path.{_≡_}
 use Prim.Native.Nat.{_+_, _*_, _-_, _≤_}
 use lib.ListN.{length}
-use Rattle.recording.specs.Buffer.{put}
+use Rattle.bytes.specs.Buffer.{put}
 use Rattle.writing.specs.Writing.{items}
 use Rattle.writing.specs.Parts.{eventBytesOf, EntriesFit}
 use Rattle.writing.proofs.RowTests.{entry-of}

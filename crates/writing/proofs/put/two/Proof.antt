@@ -2,7 +2,7 @@
 use borrow.Author.Needs.{needs}
 use native.Mathlib.Omega.{arith}
 use lib.ListN.{length-set}
-use Rattle.recording.proofs.Buffer.{put-two}
+use Rattle.bytes.proofs.Buffer.{put-two}
 use Rattle.writing.proofs.put.two.Statement.{statement}
 use Rattle.writing.proofs.put.two.Tie as tie
 

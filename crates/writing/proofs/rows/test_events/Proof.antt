@@ -4,7 +4,7 @@ use mathlib.Core.Path.{_≡_}
 use Prim.Native.Nat.{_-_, _<_, _≤_}
 use native.Mathlib.Nat.{sub-zero}
 use lib.ListN.{length}
-use Rattle.recording.specs.Tests.{eventsTests}
+use Rattle.recording.specs.Tests.{eventBytes, eventsTests}
 use Rattle.writing.specs.Writing.{entryOf}
 use Rattle.recording.proofs.Tests.{event-byte}
 use Rattle.recording.proofs.Answers.{events-refused, events-next, events-end}
@@ -53,7 +53,7 @@ enum-known-number c = search needs
 
 add-t24 : tie.Need-add-t24 Inv-loop μ-loop
 add-t24 c =
-    let small : c .before .number .given .0 .1 .0 < 4 = search event-byte in
+    let small : c .before .number .given .0 .1 .0 < eventBytes = search event-byte in
     search needs
 
 returns : tie.Need-returns Inv-loop μ-loop

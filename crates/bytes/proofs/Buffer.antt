@@ -7,7 +7,7 @@ use native.Mathlib.Numerals.{add-one}
 use native.Mathlib.Omega.{arith}
 use lib.ListN.{length, set, take, drop, length-append, length-drop}
 use lib.Seq.{paste-zero, sets-eq, length-take-le, take-at, drop-append-add, drop-drop}
-use Rattle.recording.specs.Buffer.{put}
+use Rattle.bytes.specs.Buffer.{put}
 
 module _ (lent : List ℕ) (at : ℕ) (a : List ℕ) (room : at + length a ≤ length lent) where
   -- what stands before the end of the bytes

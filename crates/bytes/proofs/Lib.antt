@@ -1,0 +1,2 @@
+-- Laws of rows of bytes.
+pub mod Buffer

@@ -1,0 +1,3 @@
+-- What must be believed of rows of bytes.
+pub mod Buffer
+pub mod Characters
