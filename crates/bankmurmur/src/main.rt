@@ -17,19 +17,19 @@ use tables::Answer;
 fn early_answer(file: &[u8]) -> Answer
     ensures { λ r. ⌜ saidBy r ≡ said (refusal true (now (file .entry))) (earlyVerdict (eventsIn (now (file .entry)))) ⌝ }
 {
-    let mut stretch = [0u32; 16];
-    let mut writer = [0u32; 512];
-    let mut readers = [0u32; 8192];
+    let mut stretch = [0u32; tables::WORKERS];
+    let mut writer = [0u32; tables::FIELDS];
+    let mut readers = [0u32; tables::PAIRS];
     early::find(file, &mut stretch, &mut writer, &mut readers)
 }
 
 fn late_answer(file: &[u8]) -> Answer
     ensures { λ r. ⌜ saidBy r ≡ said (refusal true (now (file .entry))) (lateVerdict (workerCount (now (file .entry))) (fieldCount (now (file .entry))) (eventsIn (now (file .entry)))) ⌝ }
 {
-    let mut stretch = [0u32; 16];
-    let mut writer = [0u32; 512];
-    let mut version = [0u32; 512];
-    let mut log = [0u32; 8192];
+    let mut stretch = [0u32; tables::WORKERS];
+    let mut writer = [0u32; tables::FIELDS];
+    let mut version = [0u32; tables::FIELDS];
+    let mut log = [0u32; tables::PAIRS];
     late::find(file, &mut stretch, &mut writer, &mut version, &mut log)
 }
 

@@ -43,7 +43,7 @@ fn other_reader(stretch: &[u32], readers: &[u32], workers: u32, w: Worker, f: Fi
     requires { ⌜ (f .0 < 512) × (16 ≤ length (now stretch)) × (8192 ≤ length (now readers)) ⌝ }
     ensures { λ r. ⌜ foundOf r ≡ readerBy workers (now (stretch .entry)) (now (readers .entry)) (w .0) (f .0) ⌝ }
 {
-    let base = 16 * (f.0 as usize);
+    let base = tables::WORKERS * (f.0 as usize);
     for u in 0..Worker::LIMIT {
         if reader_open(stretch, readers, workers, w, base, Worker(u)) {
             return Other::Worker(Worker(u));
@@ -79,7 +79,7 @@ fn enter_read(stretch: &[u32], readers: &mut [u32], w: Worker, f: Field)
     ensures { λ _. ⌜ now (readers .exit) ≡ set (now (readers .entry)) (16 * f .0 + w .0) (getD (now (stretch .entry)) (w .0) 0) ⌝ }
 {
     let i = w.0 as usize;
-    let j = 16 * (f.0 as usize) + i;
+    let j = tables::WORKERS * (f.0 as usize) + i;
     readers[j] = stretch[i];
 }
 
@@ -140,10 +140,10 @@ fn clear(stretch: &mut [u32], writer: &mut [u32], readers: &mut [u32], workers: 
     requires { ⌜ (workers ≤ 16) × Sized (now stretch) (now writer) (now readers) ⌝ }
     ensures { λ _. ⌜ Shows workers [] (now (stretch .entry)) (now (writer .entry)) (now (readers .entry)) (now (stretch .exit)) (now (writer .exit)) (now (readers .exit)) ⌝ }
 {
-    tables::fill(stretch, 16, 0);
+    tables::fill(stretch, tables::WORKERS, 0);
     tables::fill(stretch, workers as usize, 1);
-    tables::fill(writer, 512, 0);
-    tables::fill(readers, 8192, 0);
+    tables::fill(writer, tables::FIELDS, 0);
+    tables::fill(readers, tables::PAIRS, 0);
 }
 
 // The search over an accepted file, on any tables of full length.
@@ -165,13 +165,13 @@ fn search(
 pub fn find(file: &[u8], stretch: &mut [u32], writer: &mut [u32], readers: &mut [u32]) -> Answer
     ensures { λ r. ⌜ Finds (now (file .entry)) (now (stretch .entry)) (now (writer .entry)) (now (readers .entry)) (saidBy r) (now (stretch .exit)) (now (writer .exit)) (now (readers .exit)) ⌝ }
 {
-    if stretch.len() < 16 {
+    if stretch.len() < tables::WORKERS {
         return Answer::Refused(11, 0);
     }
-    if writer.len() < 512 {
+    if writer.len() < tables::FIELDS {
         return Answer::Refused(11, 0);
     }
-    if readers.len() < 8192 {
+    if readers.len() < tables::PAIRS {
         return Answer::Refused(11, 0);
     }
     match recording::check(file) {

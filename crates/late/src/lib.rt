@@ -305,11 +305,11 @@ fn clear(
     requires { ⌜ (workers ≤ 16) × Sized (now stretch) (now writer) (now version) (now log) ⌝ }
     ensures { λ _. ⌜ Shows workers [] (now (stretch .entry)) (now (writer .entry)) (now (version .entry)) (now (log .entry)) (now (stretch .exit)) (now (writer .exit)) (now (version .exit)) (now (log .exit)) ⌝ }
 {
-    tables::fill(stretch, 16, 0);
+    tables::fill(stretch, tables::WORKERS, 0);
     tables::fill(stretch, workers as usize, 1);
-    tables::fill(writer, 512, 0);
-    tables::fill(version, 512, 0);
-    tables::fill(log, 8192, 0);
+    tables::fill(writer, tables::FIELDS, 0);
+    tables::fill(version, tables::FIELDS, 0);
+    tables::fill(log, tables::PAIRS, 0);
 }
 
 // The search over an accepted file, on any tables of full length.
@@ -338,16 +338,16 @@ pub fn find(
 ) -> Answer
     ensures { λ r. ⌜ Finds (now (file .entry)) (now (stretch .entry)) (now (writer .entry)) (now (version .entry)) (now (log .entry)) (saidBy r) (now (stretch .exit)) (now (writer .exit)) (now (version .exit)) (now (log .exit)) ⌝ }
 {
-    if stretch.len() < 16 {
+    if stretch.len() < tables::WORKERS {
         return Answer::Refused(11, 0);
     }
-    if writer.len() < 512 {
+    if writer.len() < tables::FIELDS {
         return Answer::Refused(11, 0);
     }
-    if version.len() < 512 {
+    if version.len() < tables::FIELDS {
         return Answer::Refused(11, 0);
     }
-    if log.len() < 8192 {
+    if log.len() < tables::PAIRS {
         return Answer::Refused(11, 0);
     }
     match recording::check(file) {

@@ -12,6 +12,13 @@ use sorts::Field;
 use sorts::Stretch;
 use sorts::Worker;
 
+// The full lengths of the tables: a word for each worker, for each field, or for each field and worker.
+pub const WORKERS: usize = Worker::LIMIT as usize;
+
+pub const FIELDS: usize = Field::LIMIT as usize;
+
+pub const PAIRS: usize = FIELDS * WORKERS;
+
 // What a search for another worker finds.
 pub enum Other {
     Worker(Worker),
