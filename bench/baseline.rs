@@ -19,11 +19,15 @@ pub enum Answer {
 const READ: u8 = 1;
 const WRITE: u8 = 2;
 const CROSSING: u8 = 3;
+/// A field with this label or a higher one is a flag.
+const FIRST_FLAG_LABEL: usize = 32_768;
 
 /// The counts of a well-formed file and where its events start.
 struct Counts {
     workers: usize,
     fields: usize,
+    /// The number of the first field that is a flag, or the field count: labels rise, so all later ones are flags too.
+    first_flag: usize,
     events: usize,
     first_event: usize,
 }
@@ -67,12 +71,20 @@ fn labels_rise(file: &[u8], first: usize, count: usize, number: u32) -> Result<(
     Ok(())
 }
 
+/// How many of the rising labels are below that of a flag.
+fn first_flag(file: &[u8], first: usize, count: usize) -> usize {
+    (0..count)
+        .find(|&field| two_bytes(file, first + 2 * field) >= FIRST_FLAG_LABEL)
+        .unwrap_or(count)
+}
+
 fn check(file: &[u8]) -> Result<Counts, Answer> {
     let workers = count(file, 0, 1, 16, 2, 2)?;
     labels_rise(file, 2, workers, 3)?;
     let place = 2 + 2 * workers;
     let fields = count(file, place, 1, 512, 4, 2)?;
     labels_rise(file, place + 2, fields, 5)?;
+    let first_flag = first_flag(file, place + 2, fields);
     let place = place + 2 + 2 * fields;
     let events = count(file, place, 0, 16_000, 6, 4)?;
     let first_event = place + 2;
@@ -105,6 +117,7 @@ fn check(file: &[u8]) -> Result<Counts, Answer> {
     Ok(Counts {
         workers,
         fields,
+        first_flag,
         events,
         first_event,
     })
@@ -113,6 +126,16 @@ fn check(file: &[u8]) -> Result<Counts, Answer> {
 fn start_stretches(stretch: &mut [u32], workers: usize) {
     stretch[..16].fill(0);
     stretch[..workers].fill(1);
+}
+
+/// By how much the event raises its worker's stretch number, if it closes the stretch: a flag access is a stretch by
+/// itself and opens another.
+fn closing(kind: u8, field: usize, first_flag: usize) -> Option<u32> {
+    match kind {
+        CROSSING => Some(1),
+        _ if field >= first_flag => Some(2),
+        _ => None,
+    }
 }
 
 /// The other worker whose open stretch wrote the field last.
@@ -139,8 +162,8 @@ pub fn early(file: &[u8], stretch: &mut [u32], writer: &mut [u32], readers: &mut
     let events = &file[counts.first_event..counts.first_event + 4 * counts.events];
     for (event, bytes) in events.chunks_exact(4).enumerate() {
         let (kind, worker, field) = (bytes[0], usize::from(bytes[1]), two_bytes(bytes, 2));
-        if kind == CROSSING {
-            stretch[worker] += 1;
+        if let Some(rise) = closing(kind, field, counts.first_flag) {
+            stretch[worker] += rise;
             continue;
         }
         if let Some(other) = open_writer(stretch, writer, worker, field) {
@@ -212,7 +235,7 @@ pub fn late(
     let events = &file[counts.first_event..counts.first_event + 4 * counts.events];
     for (event, bytes) in events.chunks_exact(4).enumerate() {
         let (kind, worker, field) = (bytes[0], usize::from(bytes[1]), two_bytes(bytes, 2));
-        if kind == CROSSING {
+        if let Some(rise) = closing(kind, field, counts.first_flag) {
             if let Some(field) = stale(writer, version, log, worker, counts.fields) {
                 return Answer::Reported {
                     event,
@@ -225,7 +248,7 @@ pub fn late(
             for field in 0..counts.fields {
                 log[16 * field + worker] = 0;
             }
-            stretch[worker] += 1;
+            stretch[worker] += rise;
             continue;
         }
         if let Some(other) = open_writer(stretch, writer, worker, field) {

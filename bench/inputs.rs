@@ -1,4 +1,5 @@
-//! The recordings that the finders are timed on: 16,000 events, mostly reads, none of them a clash.
+//! The recordings that the finders are timed on: 16,000 events, mostly reads, none of them a clash. Every field is plain
+//! data, with a label below 32,768: a flag access closes a stretch, so an input with flags is timed for other work.
 
 use reference::file::{self, Kind, Recording};
 use reference::generate::{self, Care, Shape};
@@ -29,9 +30,11 @@ fn input(name: &'static str, workers: usize, crossings: usize) -> Input {
     let shape = Shape {
         workers,
         fields: file::MOST_FIELDS,
+        flags: 0,
         events: file::MOST_EVENTS,
         crossings,
         writes: 100,
+        flag_accesses: 0,
         hot_fields: 8,
         runs: 50,
         care: Care::Careful,

@@ -155,6 +155,7 @@ mod tests {
     use super::*;
     use reference::finders::Answer as Expected;
     use reference::stream::{self, Plan};
+    use reference::verdict::FIRST_FLAG_LABEL;
     use reference::{file, writing, writings};
 
     fn of_reference(answer: Expected) -> Answer {
@@ -235,6 +236,14 @@ mod tests {
                 writing::write(&request.rows, &mut expected)
             );
             assert_eq!(buffer, expected);
+        }
+    }
+
+    #[test]
+    fn no_input_has_a_flag() {
+        for input in inputs::all() {
+            let mut labels = input.recording.fields.iter();
+            assert!(labels.all(|&label| label < FIRST_FLAG_LABEL));
         }
     }
 

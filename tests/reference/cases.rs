@@ -224,6 +224,13 @@ mod tests {
     }
 
     #[test]
+    fn no_two_cases_have_one_name() {
+        let cases = all().expect("the case files are good");
+        let names: BTreeSet<&String> = cases.iter().map(|case| &case.name).collect();
+        assert_eq!(names.len(), cases.len());
+    }
+
+    #[test]
     fn no_two_writings_have_one_name() {
         let writings = writings().expect("the case files are good");
         let names: BTreeSet<&String> = writings.iter().map(|case| &case.name).collect();

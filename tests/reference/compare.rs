@@ -6,7 +6,7 @@ use std::process::{Child, ChildStdin, Command, Stdio};
 use std::sync::mpsc::{sync_channel, Receiver, SyncSender};
 use std::thread;
 
-use crate::file;
+use crate::file::{self, Event, Kind};
 use crate::finders::Answer;
 use crate::notation;
 use crate::stream::{self, Origin, Plan};
@@ -19,7 +19,13 @@ use crate::writings;
 const END_OF_STREAM: u32 = u32::MAX;
 /// So many requests may be under way.
 const UNDER_WAY: usize = 64;
+const EARLY: &str = "early";
+const LATE: &str = "late";
 const WRITER: &str = "writer";
+const ACCEPTED: &str = "accepted";
+const AT_A_CROSSING: &str = "at a crossing";
+const AT_A_FLAG_ACCESS: &str = "at a flag access";
+const AT_THE_END: &str = "at the end";
 const WRITTEN: &str = "written";
 
 /// What a subject is asked: the finders on a file, or the writer on rows.
@@ -60,12 +66,12 @@ impl Request {
             Request::Finders(request) => {
                 let response = request.expected();
                 let recording = file::read(&request.file);
-                let events = recording.map_or(0, |recording| recording.events.len());
+                let events = recording.map_or(Vec::new(), |recording| recording.events);
                 Expected {
                     parts: response.parts(),
                     outcomes: vec![
-                        ("early", outcome(response.early, events)),
-                        ("late", outcome(response.late, events)),
+                        (EARLY, outcome(response.early, &events)),
+                        (LATE, outcome(response.late, &events)),
                     ],
                 }
             }
@@ -107,7 +113,7 @@ pub fn compare(plan: Plan, command: &[String]) -> Result<Tally, String> {
             "the subject answered everything, but ended with {status}"
         ));
     }
-    tally.every_outcome_of_a_writing()?;
+    tally.every_outcome()?;
     Ok(tally)
 }
 
@@ -146,7 +152,12 @@ fn compare_all(requests: Receiver<Request>, mut output: impl Read) -> Result<Tal
         if let Err(trouble) = compare_one(&expected.parts, &mut output) {
             return Err(match &request {
                 Request::Finders(request) => {
-                    format!("request {}: {trouble}\n{}", tally.files, describe(request))
+                    format!(
+                        "request {}, {}: {trouble}\n{}",
+                        tally.files,
+                        request.name,
+                        describe(request)
+                    )
                 }
                 Request::Writer(request) => {
                     format!(
@@ -220,48 +231,82 @@ impl Tally {
         }
     }
 
-    /// So many of the writings had this outcome.
-    fn writings_with(&self, outcome: &str) -> usize {
-        let of_writer = self.outcomes.iter().filter(|((_, who), _)| *who == WRITER);
-        of_writer
+    /// So often was this outcome expected of this one.
+    fn times(&self, whose: &str, outcome: &str) -> usize {
+        let of_one = self.outcomes.iter().filter(|((_, who), _)| *who == whose);
+        of_one
             .filter_map(|(_, outcomes)| outcomes.get(outcome))
             .sum()
     }
 
     /// What was written was read back and written again.
     pub fn there_and_back(&self) -> usize {
-        self.writings_with(WRITTEN)
+        self.times(WRITER, WRITTEN)
     }
 
-    /// A comparison that left out a number of the writer would say nothing of it.
-    fn every_outcome_of_a_writing(&self) -> Result<(), String> {
-        let refusals = (1..=9).chain([12]).map(refused_with);
-        let mut outcomes = refusals.chain([WRITTEN.to_string()]);
-        match outcomes.find(|outcome| self.writings_with(outcome) == 0) {
+    /// A comparison that left out an outcome would say nothing of it.
+    fn every_outcome(&self) -> Result<(), String> {
+        let mut outcomes = verdicts().chain(other_outcomes());
+        match outcomes.find(|(who, outcome)| self.times(who, outcome) == 0) {
             None => Ok(()),
-            Some(missing) => Err(format!("'{missing}' never came up among the writings")),
+            Some((who, missing)) => Err(format!("{who}: '{missing}' never came up")),
         }
     }
+}
+
+/// Everything that the finders say of well-formed files.
+fn verdicts() -> impl Iterator<Item = (&'static str, String)> {
+    let at_accesses = [(EARLY, 1), (EARLY, 2), (EARLY, 3), (LATE, 1), (LATE, 3)];
+    let others = [
+        (EARLY, ACCEPTED),
+        (LATE, ACCEPTED),
+        (LATE, AT_A_CROSSING),
+        (LATE, AT_A_FLAG_ACCESS),
+        (LATE, AT_THE_END),
+    ];
+    at_accesses
+        .map(|(who, sort)| (who, at_an_access(sort)))
+        .into_iter()
+        .chain(others.map(|(who, verdict)| (who, verdict.to_string())))
+}
+
+/// The refusals of all three, and that something was written.
+fn other_outcomes() -> impl Iterator<Item = (&'static str, String)> {
+    let of_finders = (1..=11).flat_map(|number| [(EARLY, number), (LATE, number)]);
+    let of_writer = (1..=9).chain([12]).map(|number| (WRITER, number));
+    of_finders
+        .chain(of_writer)
+        .map(|(who, number)| (who, refused_with(number)))
+        .chain([(WRITER, WRITTEN.to_string())])
 }
 
 fn refused_with(number: u32) -> String {
     format!("refused {number:02}")
 }
 
-fn outcome(answer: Answer, events: usize) -> String {
+fn at_an_access(sort: u32) -> String {
+    format!("at an access, sort {sort}")
+}
+
+fn outcome(answer: Answer, events: &[Event]) -> String {
     match answer {
         Answer::Refused(refused) => refused_with(refused.number),
-        Answer::Accepted => "accepted".to_string(),
+        Answer::Accepted => ACCEPTED.to_string(),
         Answer::Reported(Report {
             event,
             other: NOT_RECORDED,
             ..
-        }) if event == events => "at the end".to_string(),
-        Answer::Reported(Report {
-            other: NOT_RECORDED,
-            ..
-        }) => "at a crossing".to_string(),
-        Answer::Reported(Report { sort, .. }) => format!("at an access, sort {sort}"),
+        }) => when_closing(events.get(event)).to_string(),
+        Answer::Reported(Report { sort, .. }) => at_an_access(sort),
+    }
+}
+
+/// Where a stretch's reads were checked: at the event that closes it, or after the last event.
+fn when_closing(event: Option<&Event>) -> &'static str {
+    match event.map(|event| event.kind) {
+        Some(Kind::Crossing) => AT_A_CROSSING,
+        Some(Kind::Read | Kind::Write) => AT_A_FLAG_ACCESS,
+        None => AT_THE_END,
     }
 }
 
@@ -287,27 +332,43 @@ impl std::fmt::Display for Tally {
 mod tests {
     use super::*;
 
-    fn tally(plan: Plan) -> Tally {
+    /// Of the requests with this origin.
+    fn tally(origin: Origin, count: usize) -> Tally {
+        let plan = Plan {
+            seed: 1,
+            count,
+            depth: 0,
+        };
+        let requests = requests(plan).expect("the case files are good");
         let mut tally = Tally::default();
-        for request in requests(plan).expect("the case files are good") {
+        for request in requests.filter(|request| request.origin() == origin) {
             tally.count(&request, &request.expected());
         }
         tally
     }
 
     #[test]
-    fn the_cases_alone_bring_up_every_outcome_of_a_writing() {
-        let mut tally = tally(Plan {
-            seed: 1,
-            count: 0,
-            depth: 0,
-        });
-        assert_eq!(tally.every_outcome_of_a_writing(), Ok(()));
+    fn the_cases_alone_bring_up_every_outcome() {
+        let mut tally = tally(Origin::Case, 0);
+        assert_eq!(tally.every_outcome(), Ok(()));
         assert!(tally.there_and_back() > 0 && tally.there_and_back() < tally.writings);
-        for outcomes in tally.outcomes.values_mut() {
-            outcomes.remove("refused 05");
+        for (who, missing) in [(WRITER, "refused 12"), (LATE, AT_A_FLAG_ACCESS)] {
+            for outcomes in tally.outcomes.values_mut() {
+                outcomes.remove(missing);
+            }
+            let told = format!("{who}: '{missing}' never came up");
+            assert_eq!(tally.every_outcome(), Err(told));
         }
-        assert!(tally.every_outcome_of_a_writing().is_err());
+    }
+
+    /// However the flags are strewn among them.
+    #[test]
+    fn the_random_recordings_bring_up_every_verdict_many_times() {
+        let tally = tally(Origin::Random, 4000);
+        for (who, verdict) in verdicts() {
+            let times = tally.times(who, &verdict);
+            assert!(times >= 40, "{who}: '{verdict}' came up {times} times");
+        }
     }
 
     #[test]

@@ -75,8 +75,14 @@ mod tests {
             .collect()
     }
 
+    /// The early and the late finder's tables afterwards; every field is plain.
     fn after(events: &str) -> (Vec<Vec<u32>>, Vec<Vec<u32>>) {
-        let recording = notation::recording(events, None, None).expect("the notation is good");
+        after_with(None, events)
+    }
+
+    /// Fields with these labels.
+    fn after_with(fields: Option<Vec<u16>>, events: &str) -> (Vec<Vec<u32>>, Vec<Vec<u32>>) {
+        let recording = notation::recording(events, None, fields).expect("the notation is good");
         let (mut early, mut late) = (lent(&EARLY, 1), lent(&LATE, 1));
         answers(&Ok(recording), &mut early, &mut late);
         (early, late)
@@ -120,6 +126,77 @@ mod tests {
         assert_eq!(used(&early[2]), [(0, 1)]);
         assert_eq!(used(&late[0]), [(0, 1), (1, 2)]);
         assert_eq!(used(&late[1]), [(0, 17)]);
+        assert_eq!(used(&late[2]), [(0, 1)]);
+        assert_eq!(used(&late[3]), [(0, 1)]);
+    }
+
+    /// Field 0 is plain and field 1 is a flag.
+    fn after_with_flag(events: &str) -> (Vec<Vec<u32>>, Vec<Vec<u32>>) {
+        after_with(Some(vec![7, 32_768]), events)
+    }
+
+    #[test]
+    fn a_flag_access_raises_the_stretch_word_by_two_and_enters_no_other_table() {
+        for events in ["R0.1 W1.1 R0.1", "W0.1 R1.1 W0.1"] {
+            let (early, late) = after_with_flag(events);
+            assert_eq!(used(&early[0]), [(0, 5), (1, 3)]);
+            assert_eq!(used(&early[1]), []);
+            assert_eq!(used(&early[2]), []);
+            assert_eq!(used(&late[0]), [(0, 5), (1, 3)]);
+            assert_eq!(used(&late[1]), []);
+            assert_eq!(used(&late[2]), []);
+            assert_eq!(used(&late[3]), []);
+        }
+    }
+
+    #[test]
+    fn plain_accesses_after_a_flag_bear_the_risen_number() {
+        let (early, late) = after_with_flag("R0.0 W0.0 R0.1 R1.0 W1.1 R0.0 W0.0");
+        assert_eq!(used(&early[0]), [(0, 3), (1, 3)]);
+        assert_eq!(used(&early[1]), [(0, 48)]);
+        assert_eq!(used(&early[2]), [(0, 3), (1, 1)]);
+        assert_eq!(used(&late[0]), [(0, 3), (1, 3)]);
+        assert_eq!(used(&late[1]), [(0, 48)]);
+        assert_eq!(used(&late[2]), [(0, 2)]);
+        assert_eq!(used(&late[3]), [(0, 2)]);
+    }
+
+    #[test]
+    fn a_flag_access_clears_the_log_words_of_its_worker_alone() {
+        for events in ["R0.0 R1.0 R0.1", "R0.0 R1.0 W0.1"] {
+            let (early, late) = after_with_flag(events);
+            assert_eq!(used(&early[0]), [(0, 3), (1, 1)]);
+            assert_eq!(used(&early[2]), [(0, 1), (1, 1)]);
+            assert_eq!(used(&late[3]), [(1, 1)]);
+        }
+    }
+
+    #[test]
+    fn the_version_counts_stretches_that_flags_part() {
+        let (_, late) = after_with_flag("W0.0 W0.0 R0.1 W0.1 W0.0");
+        assert_eq!(used(&late[0]), [(0, 5)]);
+        assert_eq!(used(&late[1]), [(0, 80)]);
+        assert_eq!(used(&late[2]), [(0, 2)]);
+    }
+
+    #[test]
+    fn a_reported_flag_access_is_not_entered() {
+        let (early, late) = after_with_flag("W1.1 R0.0 W1.0 R0.1 W1.1");
+        assert_eq!(used(&early[0]), [(0, 1), (1, 3)]);
+        assert_eq!(used(&early[1]), []);
+        assert_eq!(used(&early[2]), [(0, 1)]);
+        assert_eq!(used(&late[0]), [(0, 1), (1, 3)]);
+        assert_eq!(used(&late[1]), [(0, 49)]);
+        assert_eq!(used(&late[2]), [(0, 1)]);
+        assert_eq!(used(&late[3]), [(0, 1)]);
+    }
+
+    #[test]
+    fn the_highest_plain_label_enters_every_table() {
+        let (early, late) = after_with(Some(vec![32_767]), "R0.0 W0.0");
+        assert_eq!(used(&early[0]), [(0, 1)]);
+        assert_eq!(used(&early[1]), [(0, 16)]);
+        assert_eq!(used(&early[2]), [(0, 1)]);
         assert_eq!(used(&late[2]), [(0, 1)]);
         assert_eq!(used(&late[3]), [(0, 1)]);
     }

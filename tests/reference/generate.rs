@@ -5,15 +5,16 @@ use std::collections::BTreeSet;
 use crate::file::{
     self, Event, Kind, Recording, EVENT_BYTES, MOST_EVENTS, MOST_FIELDS, MOST_WORKERS,
 };
-use crate::notation::{rising, FIRST_FIELD_LABEL, FIRST_WORKER_LABEL};
+use crate::notation::{rising, FIRST_WORKER_LABEL};
 use crate::random::Random;
+use crate::verdict::FIRST_FLAG_LABEL;
 
 /// Which clashes a random recording keeps clear of.
 #[derive(Clone, Copy, PartialEq, Eq)]
 pub enum Care {
     /// None: most longer recordings are reported at an access.
     Careless,
-    /// Those with open writers only: what is left is reported late at a crossing or at the end.
+    /// Those with open writers only: what is left is reported late at a crossing, at a flag access or at the end.
     OverReaders,
     /// All: the recording is accepted.
     Careful,
@@ -23,12 +24,16 @@ pub enum Care {
 pub struct Shape {
     pub workers: usize,
     pub fields: usize,
+    /// So many of the fields are flags: the last ones, since labels rise.
+    pub flags: usize,
     pub events: usize,
     /// Crossings in a thousand events.
     pub crossings: usize,
     /// Writes in a thousand accesses.
     pub writes: usize,
-    /// So many of the fields get most of the accesses.
+    /// Flag accesses in a thousand accesses: 0 if no field is a flag, 1000 if every field is one.
+    pub flag_accesses: usize,
+    /// So many of the plain fields get most of their accesses.
     pub hot_fields: usize,
     /// One worker goes on in so many of a hundred events.
     pub runs: usize,
@@ -47,6 +52,17 @@ impl Shape {
             0 => random.from_to(1, MOST_FIELDS),
             _ => random.one_of(&[1, 1, 2, 2, 3, 4, 6, 10, MOST_FIELDS]),
         };
+        // A flag access closes a stretch, so recordings with many of them hold few clashes: more than half of the
+        // recordings have no flag, one in twenty has nothing else, and in the others most accesses are to plain fields.
+        let (flags, flag_accesses) = match random.below(20) {
+            0 => (fields, 1000),
+            1..=9 if fields > 1 => {
+                let flags = random.from_to(1, fields - 1);
+                (flags, random.one_of(&[30, 100, 300]))
+            }
+            _ => (0, 0),
+        };
+        let plain_fields = fields - flags;
         let events = match random.below(1000) {
             0 => random.one_of(&[MOST_EVENTS - 1, MOST_EVENTS]),
             1..=20 => random.from_to(300, 3000),
@@ -62,41 +78,64 @@ impl Shape {
         Shape {
             workers,
             fields,
+            flags,
             events,
             crossings: random.one_of(&[5, 30, 100, 250]),
             writes: random.one_of(&[30, 100, 250, 500]),
-            hot_fields: random.from_to(1, fields.min(4)),
+            flag_accesses,
+            hot_fields: random.from_to(plain_fields.min(1), plain_fields.min(4)),
             runs: random.one_of(&[0, 30, 80]),
             care,
             care_ends,
         }
     }
+
+    fn plain_fields(&self) -> usize {
+        self.fields - self.flags
+    }
 }
 
-/// Which workers' open stretches have read and written each field, a bit each: only to steer the events.
+/// Which workers' open stretches have read and written each plain field, a bit each: only to steer the events.
 struct OpenStretches {
     read: Vec<u16>,
     written: Vec<u16>,
 }
 
 impl OpenStretches {
-    fn enter(&mut self, event: Event) {
-        let bit = 1 << event.worker;
-        match event.kind {
-            Kind::Read => self.read[event.field] |= bit,
-            Kind::Write => self.written[event.field] |= bit,
-            Kind::Crossing => self
-                .read
-                .iter_mut()
-                .chain(&mut self.written)
-                .for_each(|bits| *bits &= !bit),
+    fn none(shape: &Shape) -> OpenStretches {
+        OpenStretches {
+            read: vec![0; shape.plain_fields()],
+            written: vec![0; shape.plain_fields()],
         }
     }
 
-    fn allows(&self, event: Event, care: Care) -> bool {
-        let others: u16 = !(1 << event.worker);
-        let meets_writer = self.written[event.field] & others != 0;
-        let meets_reader = event.kind == Kind::Write && self.read[event.field] & others != 0;
+    /// The plain fields come first.
+    fn is_flag(&self, field: usize) -> bool {
+        field >= self.read.len()
+    }
+
+    fn enter(&mut self, event: Event) {
+        let bit = 1 << event.worker;
+        match event.kind {
+            Kind::Crossing => self.close(bit),
+            _ if self.is_flag(event.field) => self.close(bit),
+            Kind::Read => self.read[event.field] |= bit,
+            Kind::Write => self.written[event.field] |= bit,
+        }
+    }
+
+    fn close(&mut self, bit: u16) {
+        let all = self.read.iter_mut().chain(&mut self.written);
+        all.for_each(|bits| *bits &= !bit);
+    }
+
+    fn allows(&self, access: Event, care: Care) -> bool {
+        if self.is_flag(access.field) {
+            return true;
+        }
+        let others: u16 = !(1 << access.worker);
+        let meets_writer = self.written[access.field] & others != 0;
+        let meets_reader = access.kind == Kind::Write && self.read[access.field] & others != 0;
         match care {
             Care::Careless => true,
             Care::OverReaders => !meets_writer,
@@ -106,12 +145,10 @@ impl OpenStretches {
 }
 
 pub fn recording(shape: &Shape, random: &mut Random) -> Recording {
-    let workers = labels(shape.workers, random);
-    let fields = labels(shape.fields, random);
-    let mut open = OpenStretches {
-        read: vec![0; shape.fields],
-        written: vec![0; shape.fields],
-    };
+    let workers = labels(shape.workers, 0, u16::MAX, random);
+    let mut fields = labels(shape.plain_fields(), 0, FIRST_FLAG_LABEL - 1, random);
+    fields.extend(labels(shape.flags, FIRST_FLAG_LABEL, u16::MAX, random));
+    let mut open = OpenStretches::none(shape);
     let mut events: Vec<Event> = Vec::new();
     for n in 0..shape.events {
         let worker = match events.last() {
@@ -162,45 +199,57 @@ fn access(shape: &Shape, worker: usize, random: &mut Random) -> Event {
     } else {
         Kind::Read
     };
-    let fields = if random.percent(60) {
-        shape.hot_fields
-    } else {
-        shape.fields
-    };
     Event {
         kind,
         worker,
-        field: random.below(fields),
+        field: field(shape, random),
     }
 }
 
-/// Rising labels: in small steps or anywhere, the lowest and the highest value among them.
-fn labels(count: usize, random: &mut Random) -> Vec<u16> {
+/// A flag, one of the hot fields, or any plain field.
+fn field(shape: &Shape, random: &mut Random) -> usize {
+    if random.below(1000) < shape.flag_accesses {
+        return shape.plain_fields() + random.below(shape.flags);
+    }
+    let fields = if random.percent(60) {
+        shape.hot_fields
+    } else {
+        shape.plain_fields()
+    };
+    random.below(fields)
+}
+
+/// So many rising labels from `least` to `most`: in small steps or anywhere, also these two values themselves.
+fn labels(count: usize, least: u16, most: u16, random: &mut Random) -> Vec<u16> {
+    if count == 0 {
+        return Vec::new();
+    }
     if random.percent(30) {
-        return rising(random.below(3) as u16, count);
+        return rising(least + random.below(3) as u16, count);
     }
     let mut labels = BTreeSet::new();
     if random.percent(20) {
-        labels.insert(random.one_of(&[0, u16::MAX]));
+        labels.insert(random.one_of(&[least, most]));
     }
     while labels.len() < count {
-        labels.insert(random.number() as u16);
+        labels.insert(random.from_to(least.into(), most.into()) as u16);
     }
     labels.into_iter().collect()
 }
 
-/// All recordings of up to so many events.
+/// All recordings of up to so many events, over fields with these labels.
 pub fn all_small(
     workers: usize,
-    fields: usize,
+    fields: &[u16],
     most_events: usize,
 ) -> impl Iterator<Item = Recording> {
-    let choices = all_events(workers, fields);
+    let fields = fields.to_vec();
+    let choices = all_events(workers, fields.len());
     (0..=most_events).flat_map(move |length| {
-        let choices = choices.clone();
+        let (fields, choices) = (fields.clone(), choices.clone());
         (0..choices.len().pow(length as u32)).map(move |number| Recording {
             workers: rising(FIRST_WORKER_LABEL, workers),
-            fields: rising(FIRST_FIELD_LABEL, fields),
+            fields: fields.clone(),
             events: digits(number, length, choices.len())
                 .map(|digit| choices[digit])
                 .collect(),
@@ -378,4 +427,45 @@ fn cut(file: &mut Vec<u8>, layout: &Layout, random: &mut Random) {
 fn extend(file: &mut Vec<u8>, random: &mut Random) {
     let extra = random.one_of(&[1, 2, 3, 4, 8, 300]);
     file.extend((0..extra).map(|_| random.below(4) as u8));
+}
+
+#[cfg(test)]
+mod tests {
+    use super::*;
+
+    fn shapes(count: usize) -> Vec<Shape> {
+        let mut random = Random::new(11);
+        (0..count).map(|_| Shape::random(&mut random)).collect()
+    }
+
+    #[test]
+    fn more_than_half_of_the_shapes_have_no_flag_and_few_have_nothing_else() {
+        let shapes = shapes(4000);
+        let share = |of: fn(&Shape) -> bool| {
+            let count = shapes.iter().filter(|shape| of(shape)).count();
+            100 * count / shapes.len()
+        };
+        let none = share(|shape| shape.flags == 0);
+        let only = share(|shape| shape.flags == shape.fields);
+        assert!((50..=65).contains(&none), "{none} in a hundred have none");
+        assert!((3..=8).contains(&only), "{only} in a hundred have no other");
+    }
+
+    #[test]
+    fn labels_make_flags_of_as_many_fields_as_the_shape_says() {
+        let mut random = Random::new(12);
+        let mut seen = BTreeSet::new();
+        for shape in shapes(2000) {
+            let events = shape.events.min(10);
+            let recording = recording(&Shape { events, ..shape }, &mut random);
+            let flags = recording.fields.iter().filter(|&&label| label >= 32_768);
+            assert_eq!(flags.count(), shape.flags);
+            assert_eq!(recording.fields.len(), shape.fields);
+            assert!(recording.fields.windows(2).all(|pair| pair[0] < pair[1]));
+            seen.extend(recording.fields);
+        }
+        for label in [0, 32_767, 32_768, 65_535] {
+            assert!(seen.contains(&label), "{label} never came up");
+        }
+    }
 }

@@ -4,8 +4,10 @@ use crate::cases;
 use crate::file;
 use crate::finders::{self, Answer};
 use crate::generate::{self, Shape};
+use crate::notation::{rising, FIRST_FIELD_LABEL};
 use crate::random::Random;
 use crate::tables::{Table, EARLY, LATE};
+use crate::verdict::FIRST_FLAG_LABEL;
 use crate::wire::{number_bytes, Part};
 
 /// How the stream is chosen: the same plan gives the same stream.
@@ -28,6 +30,8 @@ pub enum Origin {
 
 pub struct Request {
     pub origin: Origin,
+    /// Tells in a difference which request it was.
+    pub name: String,
     pub file: Vec<u8>,
     /// Lent word i holds 1 + (noise + i) % 40 beforehand.
     pub noise: usize,
@@ -127,16 +131,14 @@ fn answer_numbers(answer: Answer) -> [u32; 6] {
 
 /// The cases first, then all small recordings, then the random ones, so that a mistake shows in a short recording.
 pub fn requests(plan: Plan) -> Result<impl Iterator<Item = Request>, String> {
-    let cases = cases::all()?
-        .into_iter()
-        .flat_map(|case| case_requests(case.file));
+    let cases = cases::all()?.into_iter().flat_map(case_requests);
     Ok(cases
         .chain(small_requests(plan))
         .chain(random_requests(plan)))
 }
 
 /// Each case with exact tables, and with each table in turn empty, short by one or longer by one.
-fn case_requests(file: Vec<u8>) -> impl Iterator<Item = Request> {
+fn case_requests(case: cases::Case) -> impl Iterator<Item = Request> {
     let full = full_lengths();
     let bent = (0..full.len()).flat_map(move |table| {
         [0, full[table] - 1, full[table] + 1].map(|length| {
@@ -147,7 +149,8 @@ fn case_requests(file: Vec<u8>) -> impl Iterator<Item = Request> {
     });
     let request = move |(noise, lengths)| Request {
         origin: Origin::Case,
-        file: file.clone(),
+        name: format!("case {}", case.name),
+        file: case.file.clone(),
         noise,
         lengths,
     };
@@ -156,14 +159,19 @@ fn case_requests(file: Vec<u8>) -> impl Iterator<Item = Request> {
 
 fn small_requests(plan: Plan) -> impl Iterator<Item = Request> {
     let mut random = Random::new(plan.seed);
-    let two_workers = generate::all_small(2, 1, plan.depth + 1);
-    let three_workers = generate::all_small(3, 1, plan.depth);
-    let two_fields = generate::all_small(2, 2, plan.depth.saturating_sub(1));
-    two_workers
-        .chain(three_workers)
-        .chain(two_fields)
+    let one_field = rising(FIRST_FIELD_LABEL, 1);
+    let two_fields = rising(FIRST_FIELD_LABEL, 2);
+    let one_flag = rising(FIRST_FLAG_LABEL, 1);
+    let field_and_flag = [FIRST_FIELD_LABEL, FIRST_FLAG_LABEL];
+    let less_deep = plan.depth.saturating_sub(1);
+    generate::all_small(2, &one_field, plan.depth + 1)
+        .chain(generate::all_small(3, &one_field, plan.depth))
+        .chain(generate::all_small(2, &two_fields, less_deep))
+        .chain(generate::all_small(2, &field_and_flag, less_deep))
+        .chain(generate::all_small(2, &one_flag, less_deep))
         .map(move |recording| Request {
             origin: Origin::Small,
+            name: "of all small ones".to_string(),
             file: file::write(&recording),
             noise: random.below(65_536),
             lengths: full_lengths(),
@@ -185,6 +193,7 @@ fn random_request(random: &mut Random) -> Request {
     let noise = random.below(65_536);
     Request {
         origin,
+        name: "of the random ones".to_string(),
         file,
         noise,
         lengths: random_lengths(random),

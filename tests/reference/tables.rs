@@ -1,4 +1,5 @@
 //! The words of the five lent tables by the document's sentences, from the events before event n.
+//! A history keeps flag accesses apart from reads and writes, so the words of a flag are 0 in every table.
 
 use crate::file::{MOST_FIELDS, MOST_WORKERS};
 use crate::verdict::History;

@@ -2,6 +2,8 @@
 
 use crate::file::{Event, Kind, Recording};
 
+/// A field with this label or a higher one is a flag; every other field is plain data.
+pub const FIRST_FLAG_LABEL: u16 = 32_768;
 /// Stands for another worker that is not recorded.
 pub const NOT_RECORDED: usize = 16;
 pub const WRITE_AFTER_WRITE: u32 = 1;
@@ -17,10 +19,34 @@ pub struct Report {
     pub field: usize,
 }
 
-/// A recording with the event numbers of each worker's crossings, reads and writes, rising.
+/// What an event does. An access to a flag is no read or write of a field: it clashes with nothing and enters no table
+/// but the stretch table.
+#[derive(Clone, Copy, PartialEq, Eq)]
+enum Deed {
+    Read,
+    Write,
+    Crossing,
+    FlagAccess,
+}
+
+impl Deed {
+    /// An access is to a flag by the label of its own field. A crossing's field number names no field.
+    fn of(recording: &Recording, event: Event) -> Deed {
+        let is_flag = recording.fields[event.field] >= FIRST_FLAG_LABEL;
+        match event.kind {
+            Kind::Crossing => Deed::Crossing,
+            Kind::Read | Kind::Write if is_flag => Deed::FlagAccess,
+            Kind::Read => Deed::Read,
+            Kind::Write => Deed::Write,
+        }
+    }
+}
+
+/// A recording with the event numbers of each worker's crossings, flag accesses, reads and writes, rising.
 pub struct History<'a> {
     recording: &'a Recording,
     crossings: Vec<Vec<usize>>,
+    flag_accesses: Vec<Vec<usize>>,
     reads: Vec<Vec<usize>>,
     writes: Vec<Vec<usize>>,
 }
@@ -38,15 +64,17 @@ impl<'a> History<'a> {
         let mut history = History {
             recording,
             crossings: vec![Vec::new(); recording.workers.len()],
+            flag_accesses: vec![Vec::new(); recording.workers.len()],
             reads: vec![Vec::new(); pairs],
             writes: vec![Vec::new(); pairs],
         };
-        for (n, event) in recording.events.iter().enumerate() {
+        for (n, &event) in recording.events.iter().enumerate() {
             let pair = history.pair(event.worker, event.field);
-            match event.kind {
-                Kind::Read => history.reads[pair].push(n),
-                Kind::Write => history.writes[pair].push(n),
-                Kind::Crossing => history.crossings[event.worker].push(n),
+            match Deed::of(recording, event) {
+                Deed::Read => history.reads[pair].push(n),
+                Deed::Write => history.writes[pair].push(n),
+                Deed::Crossing => history.crossings[event.worker].push(n),
+                Deed::FlagAccess => history.flag_accesses[event.worker].push(n),
             }
         }
         history
@@ -72,21 +100,32 @@ impl<'a> History<'a> {
         self.workers().filter(move |&other| other != worker)
     }
 
+    fn deed(&self, n: usize) -> Deed {
+        Deed::of(self.recording, self.events()[n])
+    }
+
     /// The worker's crossings before event n.
     fn crossings_before(&self, worker: usize, n: usize) -> &[usize] {
         between(&self.crossings[worker], 0, n)
     }
 
-    /// The number of the worker's stretch open at event n: 1 plus its crossings so far.
-    pub fn stretch_number(&self, worker: usize, n: usize) -> usize {
-        1 + self.crossings_before(worker, n).len()
+    /// The worker's flag accesses before event n.
+    fn flag_accesses_before(&self, worker: usize, n: usize) -> &[usize] {
+        between(&self.flag_accesses[worker], 0, n)
     }
 
-    /// The first event number that lies in the worker's stretch open at event n.
+    /// The number of the worker's stretch open at event n: 1 plus its crossings so far, plus two for each flag access,
+    /// which is a stretch by itself and opens another.
+    pub fn stretch_number(&self, worker: usize, n: usize) -> usize {
+        1 + self.crossings_before(worker, n).len() + 2 * self.flag_accesses_before(worker, n).len()
+    }
+
+    /// The first event number that lies in the worker's stretch open at event n: the one after its last crossing or
+    /// flag access.
     fn stretch_start(&self, worker: usize, n: usize) -> usize {
-        self.crossings_before(worker, n)
-            .last()
-            .map_or(0, |&crossing| crossing + 1)
+        let crossing = self.crossings_before(worker, n).last();
+        let flag_access = self.flag_accesses_before(worker, n).last();
+        crossing.max(flag_access).map_or(0, |&last| last + 1)
     }
 
     /// Reads of the field before event n by the worker's stretch open at n.
@@ -129,15 +168,11 @@ impl<'a> History<'a> {
 
     /// The clash of event n with an open stretch that has written the field: sort 1 or 3.
     fn clash_with_writer(&self, n: usize) -> Option<Report> {
-        let Event {
-            kind,
-            worker,
-            field,
-        } = self.events()[n];
-        let sort = match kind {
-            Kind::Read => READ_AFTER_WRITE,
-            Kind::Write => WRITE_AFTER_WRITE,
-            Kind::Crossing => return None,
+        let Event { worker, field, .. } = self.events()[n];
+        let sort = match self.deed(n) {
+            Deed::Read => READ_AFTER_WRITE,
+            Deed::Write => WRITE_AFTER_WRITE,
+            Deed::Crossing | Deed::FlagAccess => return None,
         };
         let other = self.open_writer(worker, field, n)?;
         Some(Report {
@@ -151,12 +186,8 @@ impl<'a> History<'a> {
 
     /// The clash of a write at event n with an open stretch that has read the field: sort 2.
     fn clash_with_reader(&self, n: usize) -> Option<Report> {
-        let Event {
-            kind,
-            worker,
-            field,
-        } = self.events()[n];
-        if kind != Kind::Write {
+        let Event { worker, field, .. } = self.events()[n];
+        if self.deed(n) != Deed::Write {
             return None;
         }
         let other = self.open_reader(worker, field, n)?;
@@ -202,11 +233,11 @@ impl<'a> History<'a> {
         })
     }
 
+    /// A flag access is checked as a crossing is.
     fn late_at(&self, n: usize) -> Option<Report> {
-        let Event { kind, worker, .. } = self.events()[n];
-        match kind {
-            Kind::Read | Kind::Write => self.clash_with_writer(n),
-            Kind::Crossing => self.stale_read(worker, n),
+        match self.deed(n) {
+            Deed::Read | Deed::Write => self.clash_with_writer(n),
+            Deed::Crossing | Deed::FlagAccess => self.stale_read(self.events()[n].worker, n),
         }
     }
 
@@ -227,6 +258,7 @@ impl<'a> History<'a> {
 mod tests {
     use super::*;
     use crate::generate::{self, Shape};
+    use crate::notation::{self, FIRST_FIELD_LABEL};
     use crate::random::Random;
 
     fn recordings() -> impl Iterator<Item = Recording> {
@@ -241,19 +273,28 @@ mod tests {
                 &mut random,
             )
         };
-        generate::all_small(2, 1, 5)
-            .chain(generate::all_small(3, 1, 4))
+        generate::all_small(2, &[FIRST_FIELD_LABEL], 5)
+            .chain(generate::all_small(3, &[FIRST_FIELD_LABEL], 4))
+            .chain(generate::all_small(
+                2,
+                &[FIRST_FIELD_LABEL, FIRST_FLAG_LABEL],
+                4,
+            ))
             .chain((0..2000).map(shape))
     }
 
-    /// A read (or write) of the field by the worker at some i before n, and no crossing of the worker in between.
-    fn open_access(events: &[Event], access: Event, n: usize) -> bool {
-        let crossing = Event {
-            kind: Kind::Crossing,
-            field: 0,
-            ..access
-        };
-        (0..n).any(|i| events[i] == access && !events[i..n].contains(&crossing))
+    /// Event i is the worker's, and a crossing or an access to a flag.
+    fn closes(recording: &Recording, worker: usize, i: usize) -> bool {
+        let event = recording.events[i];
+        let closing = event.kind == Kind::Crossing || recording.fields[event.field] >= 32_768;
+        event.worker == worker && closing
+    }
+
+    /// The same access at some i before n, and from there on nothing that closes the worker's stretch: an access to a
+    /// flag is never open, as it closes the stretch itself.
+    fn open_access(recording: &Recording, access: Event, n: usize) -> bool {
+        let none_closes = |i| (i..n).all(|j| !closes(recording, access.worker, j));
+        (0..n).any(|i| recording.events[i] == access && none_closes(i))
     }
 
     #[test]
@@ -278,23 +319,22 @@ mod tests {
                     };
                     assert_eq!(
                         !history.open_reads(worker, field, n).is_empty(),
-                        open_access(&recording.events, read, n)
+                        open_access(&recording, read, n)
                     );
                     assert_eq!(
                         !history.open_writes(worker, field, n).is_empty(),
-                        open_access(&recording.events, write, n)
+                        open_access(&recording, write, n)
                     );
                 }
             }
         }
     }
 
-    /// The event number of the worker's next crossing after event n, or the event count.
-    fn next_crossing(history: &History, worker: usize, n: usize) -> usize {
-        let end = history.events().len();
-        between(&history.crossings[worker], n + 1, end)
-            .first()
-            .copied()
+    /// The event number of the worker's next crossing or flag access after event n, or the event count.
+    fn next_crossing(recording: &Recording, worker: usize, n: usize) -> usize {
+        let end = recording.events.len();
+        (n + 1..end)
+            .find(|&i| closes(recording, worker, i))
             .unwrap_or(end)
     }
 
@@ -321,8 +361,31 @@ mod tests {
             !reads.is_empty()
         };
         for reader in history.others(early.worker).filter(has_read) {
-            let latest = next_crossing(history, reader, early.event);
+            let latest = next_crossing(history.recording, reader, early.event);
             assert!(late.event <= latest, "{early:?} {late:?}");
         }
+    }
+
+    /// The stretch numbers of worker 0 before each event and at the end.
+    fn stretch_numbers(events: &str, fields: &str) -> Vec<usize> {
+        let recording = notation::recording(events, None, notation::labels(fields).ok())
+            .expect("the notation is good");
+        let history = History::of(&recording);
+        (0..=recording.events.len())
+            .map(|n| history.stretch_number(0, n))
+            .collect()
+    }
+
+    #[test]
+    fn a_flag_access_raises_the_stretch_number_by_two() {
+        let numbers = stretch_numbers("W0.0 R0.1 W0.0 W0.1 B0 R1.1 R0.0", "7,32768");
+        assert_eq!(numbers, [1, 1, 3, 3, 5, 6, 6, 6]);
+        let plain = stretch_numbers("W0.0 R0.1 W0.0 W0.1 B0 R1.1 R0.0", "7,32767");
+        assert_eq!(plain, [1, 1, 1, 1, 1, 2, 2, 2]);
+    }
+
+    #[test]
+    fn a_crossing_is_no_access_to_field_0() {
+        assert_eq!(stretch_numbers("B0 R0.0 B0", "32768"), [1, 2, 4, 5]);
     }
 }

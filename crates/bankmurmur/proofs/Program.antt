@@ -6,19 +6,18 @@ use Prim.Native.Nat.{ℕ}
 use native.Mathlib.Omega.{arith}
 use lib.ListN.{take}
 use lib.Seq.{take-all}
-use Rattle.events.specs.Verdicts.{earlyVerdict, lateVerdict}
 use Rattle.recording.specs.declared.Fault.{Fault}
 use Rattle.recording.specs.declared.Fault.the-variants.{Fine, Refused}
 use Rattle.recording.specs.declared.Counts.{Counts}
 use Rattle.recording.specs.declared.Checked.{Checked}
 use Rattle.recording.specs.declared.Checked.the-variants.{Refused as Checked-refused, Fine as Checked-fine}
-use Rattle.recording.specs.File.{refusal, checked, countsIn, workerCount, fieldCount, eventsIn, Accepted}
+use Rattle.recording.specs.File.{refusal, checked, countsIn, Accepted}
 use Rattle.recording.proofs.Acceptance.{fine-accepted, refused-refusal}
 use Rattle.recording.proofs.WellFormed.{fine-well-formed}
 use Rattle.recording.proofs.Longer.{longer-refusal}
 use Rattle.tables.specs.declared.Answer.{Answer}
 use Rattle.tables.specs.Answers.{saidBy}
-use Rattle.tables.specs.Finds.{said}
+use Rattle.tables.specs.Finds.{earlyOf, lateOf, said}
 use Rattle.lines.specs.Text.{Starts}
 use Rattle.lines.specs.Lines.{refusedLine, reportLines, printedAfter, printed}
 
@@ -27,8 +26,8 @@ module _ (file lent out : List ℕ) (n : ℕ) (r : Checked) (is : r ≡ checked 
   unfolding printed printedAfter
   refused-printed number place q p = rw (refused-refusal file r is number place q) p
 
-  pub judged-printed : (counts : Counts) (e l : Answer) → r ≡ Checked-fine counts → saidBy e ≡ said (refusal true file) (earlyVerdict (eventsIn file))
-      → saidBy l ≡ said (refusal true file) (lateVerdict (workerCount file) (fieldCount file) (eventsIn file))
+  pub judged-printed : (counts : Counts) (e l : Answer) → r ≡ Checked-fine counts → saidBy e ≡ said (refusal true file) (earlyOf file)
+      → saidBy l ≡ said (refusal true file) (lateOf file)
       → Starts (reportLines file counts (saidBy e) (saidBy l)) lent out n → Starts (printed file) lent out n
   unfolding printed printedAfter
   judged-printed counts e l q early late p =

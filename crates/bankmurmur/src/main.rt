@@ -1,10 +1,9 @@
 // The program: reads a recording from standard input, and prints its counts and what both finders say of it.
 ghost use mathlib.Core.Path.{_≡_};
 ghost use mathlib.Core.Bool.{true};
-ghost use Rattle.events.specs.Verdicts.{earlyVerdict, lateVerdict};
-ghost use Rattle.recording.specs.File.{refusal, workerCount, fieldCount, eventsIn};
+ghost use Rattle.recording.specs.File.{refusal};
 ghost use Rattle.tables.specs.Answers.{saidBy};
-ghost use Rattle.tables.specs.Finds.{said};
+ghost use Rattle.tables.specs.Finds.{earlyOf, lateOf, said};
 ghost use Rattle.lines.specs.Text.{Starts};
 ghost use Rattle.lines.specs.Lines.{printed};
 use input::Input;
@@ -15,7 +14,7 @@ use tables::Answer;
 
 // What each finder says of a file, with tables of its own.
 fn early_answer(file: &[u8]) -> Answer
-    ensures { λ r. ⌜ saidBy r ≡ said (refusal true (now (file .entry))) (earlyVerdict (eventsIn (now (file .entry)))) ⌝ }
+    ensures { λ r. ⌜ saidBy r ≡ said (refusal true (now (file .entry))) (earlyOf (now (file .entry))) ⌝ }
 {
     let mut stretch = [0u32; tables::WORKERS];
     let mut writer = [0u32; tables::FIELDS];
@@ -24,7 +23,7 @@ fn early_answer(file: &[u8]) -> Answer
 }
 
 fn late_answer(file: &[u8]) -> Answer
-    ensures { λ r. ⌜ saidBy r ≡ said (refusal true (now (file .entry))) (lateVerdict (workerCount (now (file .entry))) (fieldCount (now (file .entry))) (eventsIn (now (file .entry)))) ⌝ }
+    ensures { λ r. ⌜ saidBy r ≡ said (refusal true (now (file .entry))) (lateOf (now (file .entry))) ⌝ }
 {
     let mut stretch = [0u32; tables::WORKERS];
     let mut writer = [0u32; tables::FIELDS];

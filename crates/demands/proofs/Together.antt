@@ -3,7 +3,7 @@ use mathlib.Core.Path.{_≡_, refl, sym, _∙_, ap}
 use mathlib.Core.Bool.{true}
 use mathlib.Core.List.{List}
 use Prim.Native.Nat.{ℕ}
-use Rattle.events.specs.Verdicts.{Verdict, earlyVerdict, lateVerdict}
+use Rattle.events.specs.Verdicts.{Verdict}
 use Rattle.events.specs.Reports as verdicts
 use Rattle.events.proofs.Demands.{late-reports-too, late-not-before, late-at-once, late-by-crossing, late-by-end}
 use Rattle.recording.specs.declared.Fault.the-variants.{Fine}
@@ -11,7 +11,9 @@ use Rattle.recording.specs.File.{eventsIn, eventCount, workerCount, fieldCount,
 use Rattle.recording.specs.WellFormed.{WellFormed}
 use Rattle.recording.proofs.Guarantee.{Guarantee, guarantee}
 use Rattle.recording.proofs.WellFormed.{well-formed-fine}
+use Rattle.flags.specs.Flags.{firstFlag}
 use Rattle.tables.specs.Answers.{Said, judged}
+use Rattle.tables.specs.Finds.{earlyOf, lateOf}
 use Rattle.tables.proofs.Laws.{judged-same}
 use Rattle.early.specs.Finds as early
 use Rattle.late.specs.Finds as late
@@ -40,10 +42,10 @@ module _ (file : List ℕ) (good : WellFormed file)
   certain : Guarantee file (countsIn file)
   certain = guarantee file (countsIn file) (record { fine = well-formed-fine file good; workers = refl; fields = refl; events = refl })
 
-  early-says : a ≡ judged (earlyVerdict (eventsIn file))
+  early-says : a ≡ judged (earlyOf file)
   early-says = let fine : early.fault file S₀ Wr₀ Rd₀ ≡ Fine = rw full (well-formed-fine file good) in rw fine at (x .answers)
 
-  late-says : b ≡ judged (lateVerdict (workerCount file) (fieldCount file) (eventsIn file))
+  late-says : b ≡ judged (lateOf file)
   late-says = let fine : late.fault file S₁ Wr₁ Vr₁ Lg₁ ≡ Fine = rw full′ (well-formed-fine file good) in rw fine at (y .answers)
 
   -- DEMAND 3 of `early::find` and `late::find`.
@@ -51,16 +53,17 @@ module _ (file : List ℕ) (good : WellFormed file)
   together =
       let W = workerCount file in
       let F = fieldCount file in
+      let P = firstFlag file in
       let es = eventsIn file in
-      let v = earlyVerdict es in
-      let l = lateVerdict W F es in
+      let v = earlyOf file in
+      let l = lateOf file in
       record {
         exactly =
-            let e = late-reports-too W F (certain .few-workers) es (certain .within) in
+            let e = late-reports-too W F P (certain .few-workers) es (certain .within) in
             (λ r. some-of a v early-says (e .0 (some-to b l late-says r)), λ r. some-of b l late-says (e .1 (some-to a v early-says r)));
-        never-before = λ n m c r. late-not-before W F (certain .few-workers) es (certain .within) n c m (to-verdict b l late-says m r);
-        at-once = λ n c o. of-verdict b l late-says n (late-at-once W F (certain .few-workers) es (certain .within) n c o);
+        never-before = λ n m c r. late-not-before W F P (certain .few-workers) es (certain .within) n c m (to-verdict b l late-says m r);
+        at-once = λ n c o. of-verdict b l late-says n (late-at-once W F P (certain .few-workers) es (certain .within) n c o);
         by-crossing = λ n w u f c wrote ne read m k s.
-            by-of b l late-says m (late-by-crossing W F (certain .few-workers) es (certain .within) n c w u f wrote ne read m k s);
-        by-end = λ n c. by-of b l late-says (eventCount file) (rw (certain .count) at (late-by-end W F (certain .few-workers) es (certain .within) n c));
+            by-of b l late-says m (late-by-crossing W F P (certain .few-workers) es (certain .within) n c w u f wrote ne read m k s);
+        by-end = λ n c. by-of b l late-says (eventCount file) (rw (certain .count) at (late-by-end W F P (certain .few-workers) es (certain .within) n c));
       }

@@ -7,7 +7,8 @@ use lib.ListN.{length}
 use Rattle.sorts.specs.declared.Worker.{Worker}
 use Rattle.sorts.specs.declared.Field.{Field}
 use Rattle.events.specs.declared.Event.{Event}
-use Rattle.events.specs.Acts.{Act, History, actsOf, recordingOf, before, eventWorker}
+use Rattle.events.specs.declared.Deed.{Deed}
+use Rattle.events.specs.Acts.{Act, History, deedOf, actsOf, before, deedWorker}
 use Rattle.events.specs.Clashes.{OnWritten, Some}
 use Rattle.events.specs.Words.{stretchWord, writerWord, readersWord}
 use Rattle.events.specs.Verdicts.{accepted, reported, firstOf, earlyLook}
@@ -17,15 +18,17 @@ use Rattle.events.proofs.Stretches.{some-on-written}
 use Rattle.events.proofs.Walks.{not-both}
 use Rattle.events.proofs.Early.{EventLooked, all-calm, one-met, event-looked}
 use Rattle.recording.specs.declared.Counts.{Counts}
-use Rattle.recording.specs.File.{eventAt, eventsIn}
+use Rattle.recording.specs.File.{eventAt, fieldLabel}
 use Rattle.recording.proofs.Guarantee.{Guarantee, guarantee}
+use Rattle.flags.specs.Flags.{flagsFrom}
 use Rattle.tables.specs.declared.Verdict.{Verdict}
 use Rattle.tables.specs.declared.Verdict.the-variants.{Accepted, Reported}
 use Rattle.tables.specs.Lent.{cells}
 use Rattle.tables.specs.Answers.{verdictOf}
+use Rattle.tables.specs.Finds.{deedAt, actsIn}
 use Rattle.tables.specs.Steps.{stretchAfter, writerAfter}
 use Rattle.tables.proofs.Lent.{shown-length}
-use Rattle.tables.proofs.Files.{file-sound-full, file-numbers, file-worker, file-stretch}
+use Rattle.tables.proofs.Files.{file-sound-full, file-numbers, file-worker, file-does, file-stretch}
 use Rattle.tables.proofs.Shown.{shown-stretch}
 use Rattle.tables.proofs.Runs.{Sees, Reached, Course, reached-start, reached-next, reached-stop, reached-end, now-within, event-within, history-next, history-stop, history-end}
 use Rattle.early.specs.Steps.{readersAfter, Room, Stepped}
@@ -56,14 +59,14 @@ pub record Running (file : List ℕ) (counts : Counts) (S₀ Wr₀ Rd₀ S Wr Rd
   pub low : n ≤ counts .events
   pub short : counts .events ≤ 16000
   pub so-far : Reached earlyLook end file n
-  pub shows : Shows (counts .workers) (before [] (recordingOf (eventsIn file)) n) S₀ Wr₀ Rd₀ S Wr Rd
+  pub shows : Shows (counts .workers) (before [] (actsIn file) n) S₀ Wr₀ Rd₀ S Wr Rd
   pub stretch-length : length S ≡ length S₀
   pub writer-length : length Wr ≡ length Wr₀
   pub readers-length : length Rd ≡ length Rd₀
 
 -- the lengths are what the tables shown say
 running : (file : List ℕ) (counts : Counts) (S₀ Wr₀ Rd₀ S Wr Rd : List ℕ) (n : ℕ) → n ≤ counts .events → counts .events ≤ 16000
-    → Reached earlyLook end file n → Shows (counts .workers) (before [] (recordingOf (eventsIn file)) n) S₀ Wr₀ Rd₀ S Wr Rd
+    → Reached earlyLook end file n → Shows (counts .workers) (before [] (actsIn file) n) S₀ Wr₀ Rd₀ S Wr Rd
     → Running file counts S₀ Wr₀ Rd₀ S Wr Rd n
 running file counts S₀ Wr₀ Rd₀ S Wr Rd n l k p shows = record {
   low = l;
@@ -92,7 +95,7 @@ module _ (file : List ℕ) (counts : Counts) (S₀ Wr₀ Rd₀ : List ℕ) (read
   -- before event n
   module _ (S Wr Rd : List ℕ) (n : ℕ) (run : Running file counts S₀ Wr₀ Rd₀ S Wr Rd n) where
     abbrev now : History
-    now = before [] (recordingOf (eventsIn file)) n
+    now = before [] (actsIn file) n
 
     inside : ActsWithin (counts .workers) 512 now
     inside = now-within course n (run .so-far)
@@ -105,22 +108,10 @@ module _ (file : List ℕ) (counts : Counts) (S₀ Wr₀ Rd₀ : List ℕ) (read
 
     module _ (l : n < counts .events) where
       abbrev event : List Act
-      event = actsOf (eventAt file n)
+      event = actsOf (deedAt file n)
 
       event-inside : ActsWithin (counts .workers) 512 event
       event-inside = event-within course n (run .so-far) l
-
-      pub run-room : (e : Event) → e ≡ eventAt file n → Room e S Wr Rd
-      run-room e q = rw q (record {
-        numbers = file-numbers file counts good n l;
-        sized = record {
-          stretch = shown-length 16 (stretchWord (counts .workers) now) S₀ S (run .shows .stretch);
-          writer = shown-length 512 (writerWord now) Wr₀ Wr (run .shows .writer);
-          readers = shown-length 8192 (cells (readersWord now)) Rd₀ Rd (run .shows .readers);
-        };
-        number = rw (shown-stretch (counts .workers) (good .few-workers) now S₀ S (run .shows .stretch) (eventWorker (eventAt file n)) (file-worker file counts good n l))
-            (file-stretch file counts good n (eventWorker (eventAt file n)) (run .low));
-      })
 
       entered : firstOf (earlyLook now n) event ≡ accepted → Running file counts S₀ Wr₀ Rd₀ (stretchAfter S event) (writerAfter S Wr event) (readersAfter S Rd event) (n + 1)
       entered o =
@@ -129,22 +120,39 @@ module _ (file : List ℕ) (counts : Counts) (S₀ Wr₀ Rd₀ : List ℕ) (read
           (rw (history-next course n (run .so-far) l)
           (shows-after (counts .workers) (good .few-workers) S₀ Wr₀ Rd₀ now inside S Wr Rd (run .shows) event event-inside))
 
-      module _ (e : Event) (q : e ≡ eventAt file n) (r : Verdict) (S′ Wr′ Rd′ : List ℕ) (step : Stepped (counts .workers) n e (verdictOf r) S Wr Rd S′ Wr′ Rd′) where
-        -- what the words say of event n is the early look at it
-        says : verdictOf r ≡ firstOf (earlyLook now n) event
-        says =
-            step .answer ∙ rw q
-            (meets-shown (counts .workers) (good .few-workers) S₀ Wr₀ Rd₀ now inside S Wr Rd (run .shows) (run .so-far .calm) n event event-inside)
+      -- Event n does d. The loop has it from the event and the number of plain fields.
+      module _ (plain : ℕ) (p : plain ≡ flagsFrom (fieldLabel file) (counts .fields)) (e : Event) (t : e ≡ eventAt file n) (d : Deed) (k : d ≡ deedOf plain e) where
+        does : d ≡ deedAt file n
+        does = file-does file counts good (ready .checked) n plain p e t d k
 
-        pub run-next : r ≡ Accepted → Running file counts S₀ Wr₀ Rd₀ S′ Wr′ Rd′ (n + 1)
-        run-next o =
-            rw (rw (o, q) at (step .stretch), rw (o, q) at (step .writer), rw (o, q) at (step .readers)) (entered (sym says ∙ ap verdictOf o))
+        pub run-room : Room d S Wr Rd
+        run-room = rw does (record {
+          numbers = file-numbers file counts good n l;
+          sized = record {
+            stretch = shown-length 16 (stretchWord (counts .workers) now) S₀ S (run .shows .stretch);
+            writer = shown-length 512 (writerWord now) Wr₀ Wr (run .shows .writer);
+            readers = shown-length 8192 (cells (readersWord now)) Rd₀ Rd (run .shows .readers);
+          };
+          number = rw (shown-stretch (counts .workers) (good .few-workers) now S₀ S (run .shows .stretch) (deedWorker (deedAt file n)) (file-worker file counts good n l))
+              (file-stretch file counts good n (deedWorker (deedAt file n)) (run .low));
+        })
 
-        pub run-stop : (m a : ℕ) (w u : Worker) (f : Field) → r ≡ Reported m a w u f → Ran file counts (verdictOf r) S₀ Wr₀ Rd₀ S′ Wr′ Rd′
-        run-stop m a w u f o =
-            let o′ = ap verdictOf o in
-            rw (rw o at (step .stretch), rw o at (step .writer), rw o at (step .readers))
-            (record {
-              answer = o′ ∙ sym (reached-stop course n (run .so-far) l m a (w .0) (u .0) (f .0) (sym says ∙ o′));
-              shows = rw (history-stop course n (run .so-far) l (verdictOf r) m a (w .0) (u .0) (f .0) says o′) (run .shows);
-            })
+        module _ (r : Verdict) (S′ Wr′ Rd′ : List ℕ) (step : Stepped (counts .workers) n d (verdictOf r) S Wr Rd S′ Wr′ Rd′) where
+          -- what the words say of event n is the early look at it
+          says : verdictOf r ≡ firstOf (earlyLook now n) event
+          says =
+              step .answer ∙ rw does
+              (meets-shown (counts .workers) (good .few-workers) S₀ Wr₀ Rd₀ now inside S Wr Rd (run .shows) (run .so-far .calm) n event event-inside)
+
+          pub run-next : r ≡ Accepted → Running file counts S₀ Wr₀ Rd₀ S′ Wr′ Rd′ (n + 1)
+          run-next o =
+              rw (rw (o, does) at (step .stretch), rw (o, does) at (step .writer), rw (o, does) at (step .readers)) (entered (sym says ∙ ap verdictOf o))
+
+          pub run-stop : (m a : ℕ) (w u : Worker) (f : Field) → r ≡ Reported m a w u f → Ran file counts (verdictOf r) S₀ Wr₀ Rd₀ S′ Wr′ Rd′
+          run-stop m a w u f o =
+              let o′ = ap verdictOf o in
+              rw (rw o at (step .stretch), rw o at (step .writer), rw o at (step .readers))
+              (record {
+                answer = o′ ∙ sym (reached-stop course n (run .so-far) l m a (w .0) (u .0) (f .0) (sym says ∙ o′));
+                shows = rw (history-stop course n (run .so-far) l (verdictOf r) m a (w .0) (u .0) (f .0) says o′) (run .shows);
+              })

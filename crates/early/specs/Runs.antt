@@ -4,11 +4,11 @@ use mathlib.Core.List.{List, []}
 use Prim.Native.Nat.{ℕ}
 use Rattle.events.specs.Acts.{History}
 use Rattle.events.specs.Words.{stretchWord, writerWord, readersWord}
-use Rattle.events.specs.Verdicts.{Verdict, earlyVerdict}
+use Rattle.events.specs.Verdicts.{Verdict}
 use Rattle.recording.specs.declared.Counts.{Counts}
-use Rattle.recording.specs.File.{Accepted, eventsIn}
+use Rattle.recording.specs.File.{Accepted}
 use Rattle.tables.specs.Lent.{Shown, cells}
-use Rattle.tables.specs.Finds.{shownBy}
+use Rattle.tables.specs.Finds.{earlyOf, shownBy}
 
 -- the tables, lent as S₀, Wr₀, Rd₀, show h
 pub record Shows (W : ℕ) (h : History) (S₀ Wr₀ Rd₀ S Wr Rd : List ℕ) : Type 0 where
@@ -23,5 +23,5 @@ pub record Ready (file : List ℕ) (counts : Counts) (S Wr Rd : List ℕ) : Type
 
 -- the verdict on the recording in the file, and the tables that show what came before
 pub record Ran (file : List ℕ) (counts : Counts) (v : Verdict) (S₀ Wr₀ Rd₀ S Wr Rd : List ℕ) : Type 0 where
-  pub answer : v ≡ earlyVerdict (eventsIn file)
+  pub answer : v ≡ earlyOf file
   pub shows : Shows (counts .workers) (shownBy file v) S₀ Wr₀ Rd₀ S Wr Rd

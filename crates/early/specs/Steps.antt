@@ -1,4 +1,4 @@
--- One event on the three tables, by their words alone, whatever they hold. W is the worker count, S the stretch words, Wr the writer
+-- What an event does to the three tables, by their words alone, whatever they hold. W is the worker count, S the stretch words, Wr the writer
 -- words, Rd the readers words.
 use mathlib.Core.Path.{_≡_}
 use mathlib.Core.Bool.{Bool, not, _&&_}
@@ -6,8 +6,8 @@ use mathlib.Core.List.{List, [], _∷_}
 use Prim.Native.Nat.{ℕ, _+_, _*_, _<_, _≤_}
 use lib.Dec.{eqb}
 use lib.ListN.{length, getD, set}
-use Rattle.events.specs.declared.Event.{Event}
-use Rattle.events.specs.Acts.{Act, actsOf, EventWithin, eventWorker, reads, writes, crosses}
+use Rattle.events.specs.declared.Deed.{Deed}
+use Rattle.events.specs.Acts.{Act, actsOf, DeedWithin, deedWorker, reads, writes, crosses}
 use Rattle.events.specs.Search.{Found, lowest}
 use Rattle.events.specs.Verdicts.{Verdict, accepted, reported, firstOf, earlyBy}
 use Rattle.tables.specs.Steps.{isOpen, writerBy, stretchWith, stretchAfter, writerAfter}
@@ -20,9 +20,9 @@ readerOpen W S Rd w base u = not (eqb u w) && isOpen W S u (getD Rd (base + u) 0
 abbrev pub readerBy : ℕ → List ℕ → List ℕ → ℕ → ℕ → Found
 readerBy W S Rd w f = lowest (readerOpen W S Rd w (16 * f)) 0 16
 
--- what event n meets: the first report among its acts, all looked at on the same words
-abbrev pub meets : ℕ → List ℕ → List ℕ → List ℕ → ℕ → Event → Verdict
-meets W S Wr Rd n e = firstOf (earlyBy (writerBy W S Wr) (readerBy W S Rd) n) (actsOf e)
+-- what event n meets, where it does d: the first report among its acts, all looked at on the same words
+abbrev pub meets : ℕ → List ℕ → List ℕ → List ℕ → ℕ → Deed → Verdict
+meets W S Wr Rd n d = firstOf (earlyBy (writerBy W S Wr) (readerBy W S Rd) n) (actsOf d)
 
 -- the readers words with an act entered: a read leaves its stretch
 unfoldable pub readersWith : List ℕ → List ℕ → Act → List ℕ
@@ -40,26 +40,26 @@ pub record Sized (S Wr Rd : List ℕ) : Type 0 where
   pub writer : 512 ≤ length Wr
   pub readers : 8192 ≤ length Rd
 
--- e can be entered: its numbers are in the tables, and its worker's stretch number fits a writer word
-pub record Room (e : Event) (S Wr Rd : List ℕ) : Type 0 where
-  pub numbers : EventWithin 16 512 e
+-- d can be entered: its numbers are in the tables, and its worker's stretch number fits a writer word
+pub record Room (d : Deed) (S Wr Rd : List ℕ) : Type 0 where
+  pub numbers : DeedWithin 16 512 d
   pub sized : Sized S Wr Rd
-  pub number : getD S (eventWorker e) 0 < 268435456
+  pub number : getD S (deedWorker d) 0 < 268435456
 
--- the tables with e entered
-pub record Entered (e : Event) (S₀ Wr₀ Rd₀ S Wr Rd : List ℕ) : Type 0 where
-  pub stretch : S ≡ stretchAfter S₀ (actsOf e)
-  pub writer : Wr ≡ writerAfter S₀ Wr₀ (actsOf e)
-  pub readers : Rd ≡ readersAfter S₀ Rd₀ (actsOf e)
+-- the tables with d entered
+pub record Entered (d : Deed) (S₀ Wr₀ Rd₀ S Wr Rd : List ℕ) : Type 0 where
+  pub stretch : S ≡ stretchAfter S₀ (actsOf d)
+  pub writer : Wr ≡ writerAfter S₀ Wr₀ (actsOf d)
+  pub readers : Rd ≡ readersAfter S₀ Rd₀ (actsOf d)
 
 -- A reported event is not entered.
 abbrev pub unless : Verdict → List ℕ → List ℕ → List ℕ
 unless accepted new old = new
 unless (reported n s w u f) new old = old
 
--- the answer v to event n, and the tables after it
-pub record Stepped (W n : ℕ) (e : Event) (v : Verdict) (S₀ Wr₀ Rd₀ S Wr Rd : List ℕ) : Type 0 where
-  pub answer : v ≡ meets W S₀ Wr₀ Rd₀ n e
-  pub stretch : S ≡ unless v (stretchAfter S₀ (actsOf e)) S₀
-  pub writer : Wr ≡ unless v (writerAfter S₀ Wr₀ (actsOf e)) Wr₀
-  pub readers : Rd ≡ unless v (readersAfter S₀ Rd₀ (actsOf e)) Rd₀
+-- the answer v to event n, where it does d, and the tables after it
+pub record Stepped (W n : ℕ) (d : Deed) (v : Verdict) (S₀ Wr₀ Rd₀ S Wr Rd : List ℕ) : Type 0 where
+  pub answer : v ≡ meets W S₀ Wr₀ Rd₀ n d
+  pub stretch : S ≡ unless v (stretchAfter S₀ (actsOf d)) S₀
+  pub writer : Wr ≡ unless v (writerAfter S₀ Wr₀ (actsOf d)) Wr₀
+  pub readers : Rd ≡ unless v (readersAfter S₀ Rd₀ (actsOf d)) Rd₀

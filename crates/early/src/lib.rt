@@ -3,13 +3,13 @@ ghost use mathlib.Core.Path.{_≡_};
 ghost use Prim.Native.Nat.{_+_, _*_, _<_, _≤_};
 ghost use mathlib.Core.List.{[]};
 ghost use lib.ListN.{length, getD, set};
-ghost use Rattle.events.specs.Acts.{EventWithin};
+ghost use Rattle.events.specs.Acts.{DeedWithin};
 ghost use Rattle.recording.specs.File.{Accepted};
 ghost use Rattle.tables.specs.Answers.{foundOf, verdictOf, saidBy};
 ghost use Rattle.early.specs.Steps.{readerOpen, readerBy, meets, Sized, Room, Entered, Stepped};
 ghost use Rattle.early.specs.Runs.{Shows, Ready, Ran};
 ghost use Rattle.early.specs.Finds.{Finds};
-use events::Event;
+use events::Deed;
 use recording::Checked;
 use recording::Counts;
 use sorts::Field;
@@ -52,24 +52,25 @@ fn other_reader(stretch: &[u32], readers: &[u32], workers: u32, w: Worker, f: Fi
     Other::Nobody
 }
 
-// What event n meets. Sort 1 is tested before sort 2.
-fn look(stretch: &[u32], writer: &[u32], readers: &[u32], workers: u32, n: u32, e: Event) -> Verdict
-    requires { ⌜ EventWithin 16 512 e × Sized (now stretch) (now writer) (now readers) ⌝ }
-    ensures { λ r. ⌜ verdictOf r ≡ meets workers (now (stretch .entry)) (now (writer .entry)) (now (readers .entry)) n e ⌝ }
+// What event n meets, by what it does. Sort 1 is tested before sort 2.
+fn look(stretch: &[u32], writer: &[u32], readers: &[u32], workers: u32, n: u32, d: Deed) -> Verdict
+    requires { ⌜ DeedWithin 16 512 d × Sized (now stretch) (now writer) (now readers) ⌝ }
+    ensures { λ r. ⌜ verdictOf r ≡ meets workers (now (stretch .entry)) (now (writer .entry)) (now (readers .entry)) n d ⌝ }
 {
-    match e {
-        Event::Read(w, f) => match tables::other_writer(stretch, writer, workers, w, f) {
+    match d {
+        Deed::Reads(w, f) => match tables::other_writer(stretch, writer, workers, w, f) {
             Other::Worker(u) => Verdict::Reported(n, 3, w, u, f),
             Other::Nobody => Verdict::Accepted,
         },
-        Event::Write(w, f) => match tables::other_writer(stretch, writer, workers, w, f) {
+        Deed::Writes(w, f) => match tables::other_writer(stretch, writer, workers, w, f) {
             Other::Worker(u) => Verdict::Reported(n, 1, w, u, f),
             Other::Nobody => match other_reader(stretch, readers, workers, w, f) {
                 Other::Worker(u) => Verdict::Reported(n, 2, w, u, f),
                 Other::Nobody => Verdict::Accepted,
             },
         },
-        Event::Crossing(_) => Verdict::Accepted,
+        Deed::Crosses(_) => Verdict::Accepted,
+        Deed::Signals(_) => Verdict::Accepted,
     }
 }
 
@@ -83,14 +84,15 @@ fn enter_read(stretch: &[u32], readers: &mut [u32], w: Worker, f: Field)
     readers[j] = stretch[i];
 }
 
-fn enter(stretch: &mut [u32], writer: &mut [u32], readers: &mut [u32], e: Event)
-    requires { ⌜ Room e (now stretch) (now writer) (now readers) ⌝ }
-    ensures { λ _. ⌜ Entered e (now (stretch .entry)) (now (writer .entry)) (now (readers .entry)) (now (stretch .exit)) (now (writer .exit)) (now (readers .exit)) ⌝ }
+fn enter(stretch: &mut [u32], writer: &mut [u32], readers: &mut [u32], d: Deed)
+    requires { ⌜ Room d (now stretch) (now writer) (now readers) ⌝ }
+    ensures { λ _. ⌜ Entered d (now (stretch .entry)) (now (writer .entry)) (now (readers .entry)) (now (stretch .exit)) (now (writer .exit)) (now (readers .exit)) ⌝ }
 {
-    match e {
-        Event::Read(w, f) => enter_read(stretch, readers, w, f),
-        Event::Write(w, f) => tables::enter_write(stretch, writer, w, f),
-        Event::Crossing(w) => tables::enter_crossing(stretch, w),
+    match d {
+        Deed::Reads(w, f) => enter_read(stretch, readers, w, f),
+        Deed::Writes(w, f) => tables::enter_write(stretch, writer, w, f),
+        Deed::Crosses(w) => tables::enter_crossing(stretch, w),
+        Deed::Signals(w) => tables::enter_flag(stretch, w),
     }
 }
 
@@ -101,14 +103,14 @@ pub fn step(
     readers: &mut [u32],
     workers: u32,
     n: u32,
-    e: Event,
+    d: Deed,
 ) -> Verdict
-    requires { ⌜ Room e (now stretch) (now writer) (now readers) ⌝ }
-    ensures { λ r. ⌜ Stepped workers n e (verdictOf r) (now (stretch .entry)) (now (writer .entry)) (now (readers .entry)) (now (stretch .exit)) (now (writer .exit)) (now (readers .exit)) ⌝ }
+    requires { ⌜ Room d (now stretch) (now writer) (now readers) ⌝ }
+    ensures { λ r. ⌜ Stepped workers n d (verdictOf r) (now (stretch .entry)) (now (writer .entry)) (now (readers .entry)) (now (stretch .exit)) (now (writer .exit)) (now (readers .exit)) ⌝ }
 {
-    let r = look(stretch, writer, readers, workers, n, e);
+    let r = look(stretch, writer, readers, workers, n, d);
     if let Verdict::Accepted = r {
-        enter(stretch, writer, readers, e);
+        enter(stretch, writer, readers, d);
     }
     r
 }
@@ -125,9 +127,11 @@ fn run(
     ensures { λ r. ⌜ Ran (now (file .entry)) counts (verdictOf r) (now (stretch .entry)) (now (writer .entry)) (now (readers .entry)) (now (stretch .exit)) (now (writer .exit)) (now (readers .exit)) ⌝ }
 {
     let workers = counts.workers;
+    let plain = flags::first_flag(file, counts.fields);
     for n in 0..counts.events {
         let e = recording::event_at(file, counts, n);
-        let r = step(stretch, writer, readers, workers, n, e);
+        let d = events::deed_of(plain, e);
+        let r = step(stretch, writer, readers, workers, n, d);
         if let Verdict::Reported(_, _, _, _, _) = r {
             return r;
         }

@@ -3,11 +3,15 @@ use mathlib.Core.Path.{_≡_, refl}
 use mathlib.Core.List.{List, [], _∷_}
 use Prim.Native.Nat.{ℕ, zero, suc, _<_, _≤_}
 use native.Mathlib.Omega.{arith}
+use lib.Dec.{leb}
 use lib.ListN.{length, getD, drop}
 use Rattle.events.specs.declared.Event.{Event}
 use Rattle.events.specs.declared.Event.the-variants.{Read, Write, Crossing}
-use Rattle.events.specs.Acts.{Act, Recording, History, actsOf, recordingOf, entered, before, workerOf, Within, EventWithin, reads, writes, crosses}
+use Rattle.events.specs.declared.Deed.{Deed}
+use Rattle.events.specs.declared.Deed.the-variants.{Reads, Writes, Crosses, Signals}
+use Rattle.events.specs.Acts.{Act, Recording, History, deedOf, actsOf, recordingOf, entered, before, workerOf, Within, EventWithin, DeedWithin, reads, writes, crosses}
 use Rattle.events.specs.Clashes.{Some, SomeAt, here, later}
+use Rattle.events.proofs.Tests.{bool}
 
 -- with W workers and F fields
 abbrev pub ActWithin : ℕ → ℕ → Act → Type 0
@@ -34,10 +38,17 @@ abbrev pub Sound : ℕ → ℕ → Recording → Type 0
 Sound W F [] = Unit {0}
 Sound W F (e ∷ es) = EventActs W F e × Sound W F es
 
-pub acts-sound : (W F : ℕ) (e : Event) → EventWithin W F e → EventActs W F (actsOf e)
-acts-sound W F (Read w f) i = record { worker = w .0; own = (refl, tt); inside = (i, tt) }
-acts-sound W F (Write w f) i = record { worker = w .0; own = (refl, tt); inside = (i, tt) }
-acts-sound W F (Crossing w) i = record { worker = w .0; own = (refl, tt); inside = (i, tt) }
+-- what an event does is within the counts too
+pub deed-within : (W F P : ℕ) (e : Event) → EventWithin W F e → DeedWithin W F (deedOf P e)
+deed-within W F P (Read w f) i = bool (leb P (f .0)) (λ t. rw t (i .0)) (λ t. rw t i)
+deed-within W F P (Write w f) i = bool (leb P (f .0)) (λ t. rw t (i .0)) (λ t. rw t i)
+deed-within W F P (Crossing w) i = i
+
+acts-sound : (W F : ℕ) (d : Deed) → DeedWithin W F d → EventActs W F (actsOf d)
+acts-sound W F (Reads w f) i = record { worker = w .0; own = (refl, tt); inside = (i, tt) }
+acts-sound W F (Writes w f) i = record { worker = w .0; own = (refl, tt); inside = (i, tt) }
+acts-sound W F (Crosses w) i = record { worker = w .0; own = (refl, tt); inside = (i, tt) }
+acts-sound W F (Signals w) i = record { worker = w .0; own = (refl, (refl, tt)); inside = (i, (i, tt)) }
 
 -- more workers or fields do no harm
 pub within-wider : (W F G : ℕ) (es : List Event) → F ≤ G → Within W F es → Within W G es
@@ -49,35 +60,38 @@ within-wider W F G (e ∷ es) l i = (one e (i .0), within-wider W F G es l (i .1
     one (Write w f) j = (j .0, omega arith)
     one (Crossing w) j = j
 
-pub recording-sound : (W F : ℕ) (es : List Event) → Within W F es → Sound W F (recordingOf es)
-unfolding recordingOf
-recording-sound W F [] i = tt
-recording-sound W F (e ∷ es) i = (acts-sound W F e (i .0), recording-sound W F es (i .1))
+-- with P plain fields
+module _ (P : ℕ) where
+  pub recording-sound : (W F : ℕ) (es : List Event) → Within W F es → Sound W F (recordingOf P es)
+  unfolding recordingOf
+  recording-sound W F [] i = tt
+  recording-sound W F (e ∷ es) i = (acts-sound W F (deedOf P e) (deed-within W F P e (i .0)), recording-sound W F es (i .1))
 
-pub recording-length : (es : List Event) → length (recordingOf es) ≡ length es
-unfolding recordingOf
-recording-length [] = refl
-recording-length (e ∷ es) = rw (recording-length es)
+  pub recording-length : (es : List Event) → length (recordingOf P es) ≡ length es
+  unfolding recordingOf
+  recording-length [] = refl
+  recording-length (e ∷ es) = rw (recording-length es)
 
--- an event has at most one act
-acts-short : (e : Event) → length (actsOf e) ≤ 1
-acts-short (Read w f) = omega arith
-acts-short (Write w f) = omega arith
-acts-short (Crossing w) = omega arith
+  -- the event that stands first of those from n on
+  pub event-is : (es rest : List Event) (n : ℕ) (e : Event) → drop n es ≡ e ∷ rest → getD (recordingOf P es) n [] ≡ actsOf (deedOf P e)
+  unfolding recordingOf
+  event-is [] rest zero e q = let z : _≡_ {A = ℕ} 0 1 = cc in absurd (omega arith)
+  event-is [] rest (suc n) e q = let z : _≡_ {A = ℕ} 0 1 = cc in absurd (omega arith)
+  event-is (x ∷ es) rest zero e q = let k : x ≡ e = cc in rw k
+  event-is (x ∷ es) rest (suc n) e q = event-is es rest n e q
 
-pub event-short : (es : List Event) (n : ℕ) → length (getD (recordingOf es) n []) ≤ 1
-unfolding recordingOf
-event-short [] n = omega arith
-event-short (e ∷ es) zero = acts-short e
-event-short (e ∷ es) (suc n) = event-short es n
+  -- an event has at most two acts
+  acts-short : (d : Deed) → length (actsOf d) ≤ 2
+  acts-short (Reads w f) = omega arith
+  acts-short (Writes w f) = omega arith
+  acts-short (Crosses w) = omega arith
+  acts-short (Signals w) = omega arith
 
--- the event that stands first of those from n on
-pub event-is : (es rest : List Event) (n : ℕ) (e : Event) → drop n es ≡ e ∷ rest → getD (recordingOf es) n [] ≡ actsOf e
-unfolding recordingOf
-event-is [] rest zero e q = let z : _≡_ {A = ℕ} 0 1 = cc in absurd (omega arith)
-event-is [] rest (suc n) e q = let z : _≡_ {A = ℕ} 0 1 = cc in absurd (omega arith)
-event-is (x ∷ es) rest zero e q = let k : x ≡ e = cc in rw k
-event-is (x ∷ es) rest (suc n) e q = event-is es rest n e q
+  pub event-short : (es : List Event) (n : ℕ) → length (getD (recordingOf P es) n []) ≤ 2
+  unfolding recordingOf
+  event-short [] n = omega arith
+  event-short (e ∷ es) zero = acts-short (deedOf P e)
+  event-short (e ∷ es) (suc n) = event-short es n
 
 -- past the end there are no acts
 pub event-sound : (W F : ℕ) (es : Recording) → Sound W F es → (n : ℕ) → EventActs W F (getD es n [])

@@ -4,6 +4,7 @@ pub mod Tests
 pub mod Search
 pub mod Histories
 pub mod Stretches
+pub mod Deeds
 pub mod Positions
 pub mod Walks
 pub mod Early

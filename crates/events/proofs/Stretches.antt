@@ -2,7 +2,7 @@
 use mathlib.Core.Path.{_≡_, refl, sym, _∙_}
 use mathlib.Core.Bool.{false, and-false}
 use mathlib.Core.List.{List, [], _∷_}
-use Prim.Native.Nat.{ℕ, zero, suc, _+_, _<_, _≤_}
+use Prim.Native.Nat.{ℕ, zero, suc, _+_, _*_, _<_, _≤_}
 use native.Mathlib.Omega.{arith}
 use lib.Dec.{eqb}
 use lib.ListN.{length, getD}
@@ -36,14 +36,14 @@ stretch-entered h (a ∷ more) w =
     let y = stretch-next a h w in
     omega arith
 
--- an event is one act, so a stretch's number is at most 1 plus the events so far
-pub stretch-low : (es : List Event) (n w : ℕ) → stretchOf (before [] (recordingOf es) n) w ≤ n + 1
+-- an event has at most two acts, so a stretch's number is at most 1 plus twice the events so far
+pub stretch-low : (P : ℕ) (es : List Event) (n w : ℕ) → stretchOf (before [] (recordingOf P es) n) w ≤ 2 * n + 1
 unfolding before stretchOf
-stretch-low es zero w = omega arith
-stretch-low es (suc n) w =
-    let x = stretch-low es n w in
-    let y = stretch-entered (before [] (recordingOf es) n) (getD (recordingOf es) n []) w in
-    let z = event-short es n in
+stretch-low P es zero w = omega arith
+stretch-low P es (suc n) w =
+    let x = stretch-low P es n w in
+    let y = stretch-entered (before [] (recordingOf P es) n) (getD (recordingOf P es) n []) w in
+    let z = event-short P es n in
     rw before-next (omega arith)
 
 module _ (a : Act) (h : History) (u f : ℕ) (ne : u ≡ workerOf a → ⊥) where

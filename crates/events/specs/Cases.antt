@@ -21,7 +21,7 @@ W w f = Write (record { 0 = w }) (record { 0 = f })
 B : ℕ → Event
 B w = Crossing (record { 0 = w })
 
--- a sequence over one field with its worker count, and both verdicts: event, sort, worker, other worker, field
+-- a sequence over one plain field with its worker count, and both verdicts: event, sort, worker, other worker, field
 pub record Case : Type 0 where
   workers : ℕ
   events : List Event
@@ -70,7 +70,7 @@ same (reported n s w u f) accepted = false
 same (reported n s w u f) (reported n′ s′ w′ u′ f′) = eqb n n′ && (eqb s s′ && (eqb w w′ && (eqb u u′ && eqb f f′)))
 
 holds : Case → Bool
-holds c = same (earlyVerdict (c .events)) (c .early-says) && same (lateVerdict (c .workers) 1 (c .events)) (c .late-says)
+holds c = same (earlyVerdict 1 (c .events)) (c .early-says) && same (lateVerdict (c .workers) 1 1 (c .events)) (c .late-says)
 
 pub all : List Case → Bool
 all [] = true

@@ -82,9 +82,9 @@ endBy stale n w (suc k) = andThen (staleBy stale n w) (endBy stale n (w + 1) k)
 abbrev pub late : ℕ → ℕ → History → ℕ → Recording → Verdict
 late W F h n es = walk (lateLook F) (λ h n. endBy (staleField F h) n 0 W) h n es
 
--- the verdicts on a whole recording
-abbrev pub earlyVerdict : List Event → Verdict
-earlyVerdict es = early [] 0 (recordingOf es)
+-- the verdicts on a whole recording, with P of its F fields plain
+abbrev pub earlyVerdict : ℕ → List Event → Verdict
+earlyVerdict P es = early [] 0 (recordingOf P es)
 
-abbrev pub lateVerdict : ℕ → ℕ → List Event → Verdict
-lateVerdict W F es = late W F [] 0 (recordingOf es)
+abbrev pub lateVerdict : ℕ → ℕ → ℕ → List Event → Verdict
+lateVerdict W F P es = late W F [] 0 (recordingOf P es)

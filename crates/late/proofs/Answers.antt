@@ -89,9 +89,9 @@ module _ (file S Wr Vr Lg : List ℕ) where
       file-judged answer v S′ Wr′ Vr′ Lg′ says ran =
           let fine : fault file S Wr Vr Lg ≡ Fine = rw full (file-accepted .fine) in
           record {
-            answers = rw (fine, ← file-accepted .workers, ← file-accepted .fields, ← ran .answer) says;
-            stretch = rw (fine, ← file-accepted .workers, ← file-accepted .fields, ← ran .answer) (shown-is 16 (stretchWord (counts .workers) (shownBy file v)) S S′ (ran .shows .stretch));
-            writer = rw (fine, ← file-accepted .workers, ← file-accepted .fields, ← ran .answer) (shown-is 512 (writerWord (shownBy file v)) Wr Wr′ (ran .shows .writer));
-            version = rw (fine, ← file-accepted .workers, ← file-accepted .fields, ← ran .answer) (shown-is 512 (versionWord (shownBy file v)) Vr Vr′ (ran .shows .version));
-            log = rw (fine, ← file-accepted .workers, ← file-accepted .fields, ← ran .answer) (shown-is 8192 (cells (logWord (shownBy file v))) Lg Lg′ (ran .shows .log));
+            answers = rw (fine, ← ran .answer) says;
+            stretch = rw (fine, ← ran .answer, ← file-accepted .workers) (shown-is 16 (stretchWord (counts .workers) (shownBy file v)) S S′ (ran .shows .stretch));
+            writer = rw (fine, ← ran .answer) (shown-is 512 (writerWord (shownBy file v)) Wr Wr′ (ran .shows .writer));
+            version = rw (fine, ← ran .answer) (shown-is 512 (versionWord (shownBy file v)) Vr Vr′ (ran .shows .version));
+            log = rw (fine, ← ran .answer) (shown-is 8192 (cells (logWord (shownBy file v))) Lg Lg′ (ran .shows .log));
           }

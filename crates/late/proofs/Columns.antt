@@ -1,14 +1,14 @@
 -- Laws of one worker's column of the log, cleared from field 0 on.
 use mathlib.Core.Path.{_≡_, refl, sym, _∙_}
-use mathlib.Core.Bool.{cond, _&&_, and-false}
+use mathlib.Core.Bool.{true, cond, _&&_, and-false}
 use mathlib.Core.List.{List}
 use Prim.Native.Nat.{ℕ, zero, suc, _+_, _*_, _/_, _%_, _<_, _≤_}
 use native.Mathlib.Numerals.{add-one}
 use native.Mathlib.Omega.{arith}
 use lib.Dec.{eqb, ltb}
 use lib.ListN.{length, getD, set, drop, length-set}
-use lib.Seq.{drop-set-lt}
-use borrow.Author.Tests.{lt-ltb, le-ltb, ltb-true, ltb-false}
+use lib.Seq.{drop-set-lt, set-getD}
+use borrow.Author.Tests.{eq-eqb, lt-ltb, le-ltb, ltb-true, ltb-false}
 use Rattle.events.proofs.Tests.{bool, same}
 use Rattle.tables.specs.Lent.{Shown}
 use Rattle.tables.proofs.Lent.{shown-length, getD-set, eqb-cell}
@@ -49,6 +49,19 @@ module _ (d : List ℕ) (w : ℕ) where
       where
         further : {n k : ℕ} → (n ≡ k → ⊥) → ltb k (suc n) ≡ ltb k n
         further {n} {k} q = bool (ltb k n) (λ s. rw s (lt-ltb k (suc n) (omega (arith, ltb-true k n s)))) (λ s. rw s (le-ltb k (suc n) (omega (arith, ltb-false k n s))))
+
+    -- cleared again, it stays
+    cleared-again : (n k : ℕ) → 16 * n ≤ length d → k ≤ n → cleared (cleared d w n) w k ≡ cleared d w n
+    unfolding cleared
+    cleared-again n zero l m = refl
+    cleared-again n (suc k) l m =
+        let in-column : eqb w ((16 * k + w) % 16) ≡ true = eq-eqb w ((16 * k + w) % 16) (omega arith) in
+        let in-rows : ltb ((16 * k + w) / 16) n ≡ true = lt-ltb ((16 * k + w) / 16) n (omega arith) in
+        let word : getD (cleared d w n) (16 * k + w) 0 ≡ 0 = getD-cleared n (16 * k + w) l ∙ rw (in-column, in-rows) in
+        rw (cleared-again n k l (omega arith)) (rw word at (set-getD (cleared d w n) (16 * k + w) 0))
+
+    pub cleared-twice : (n : ℕ) → 16 * n ≤ length d → cleared (cleared d w n) w n ≡ cleared d w n
+    cleared-twice n l = cleared-again n n l (omega arith)
 
     -- a table that shows words, with the column cleared
     pub shown-cleared : (full n : ℕ) (word word′ : ℕ → ℕ) (lent : List ℕ) → Shown full word lent d → 16 * n ≤ full

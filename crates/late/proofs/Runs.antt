@@ -7,7 +7,8 @@ use lib.ListN.{length}
 use Rattle.sorts.specs.declared.Worker.{Worker}
 use Rattle.sorts.specs.declared.Field.{Field}
 use Rattle.events.specs.declared.Event.{Event}
-use Rattle.events.specs.Acts.{Act, History, actsOf, recordingOf, before}
+use Rattle.events.specs.declared.Deed.{Deed}
+use Rattle.events.specs.Acts.{Act, History, deedOf, actsOf, before}
 use Rattle.events.specs.Clashes.{OnWritten, Some}
 use Rattle.events.specs.Words.{writerWord, versionWord, logWord}
 use Rattle.events.specs.Verdicts.{accepted, reported, firstOf, staleField, endBy, lateLook}
@@ -16,15 +17,16 @@ use Rattle.events.proofs.Histories.{ActsWithin}
 use Rattle.events.proofs.Walks.{not-both}
 use Rattle.events.proofs.Late.{LateLooked, passed, stopped, late-looked, EndLooked, all-passed, one-stopped, end-looked}
 use Rattle.recording.specs.declared.Counts.{Counts}
-use Rattle.recording.specs.File.{eventAt, eventsIn}
+use Rattle.recording.specs.File.{fieldLabel, eventAt, eventsIn}
 use Rattle.recording.proofs.Guarantee.{Guarantee, guarantee}
+use Rattle.flags.specs.Flags.{flagsFrom, firstFlag}
 use Rattle.tables.specs.declared.Verdict.{Verdict}
 use Rattle.tables.specs.declared.Verdict.the-variants.{Accepted, Reported}
 use Rattle.tables.specs.Lent.{cells}
 use Rattle.tables.specs.Answers.{verdictOf}
-use Rattle.tables.specs.Finds.{shownBy}
+use Rattle.tables.specs.Finds.{deedAt, actsIn, shownBy}
 use Rattle.tables.proofs.Lent.{shown-length}
-use Rattle.tables.proofs.Files.{file-sound}
+use Rattle.tables.proofs.Files.{file-sound, file-deed, file-does}
 use Rattle.tables.proofs.Runs.{Sees, Reached, Course, reached-start, reached-next, reached-stop, reached-end, now-within, event-within, history-next, history-stop, history-end}
 use Rattle.late.specs.Stale.{staleFieldBy}
 use Rattle.late.specs.Steps.{Room, Stepped}
@@ -55,7 +57,7 @@ pub record Running (file : List ℕ) (counts : Counts) (S₀ Wr₀ Vr₀ Lg₀ S
   pub low : n ≤ counts .events
   pub short : counts .events ≤ 16000
   pub so-far : Reached (lateLook (counts .fields)) (end (counts .workers) (counts .fields)) file n
-  pub shows : Shows (counts .workers) (before [] (recordingOf (eventsIn file)) n) S₀ Wr₀ Vr₀ Lg₀ S Wr Vr Lg
+  pub shows : Shows (counts .workers) (before [] (actsIn file) n) S₀ Wr₀ Vr₀ Lg₀ S Wr Vr Lg
   pub stretch-length : length S ≡ length S₀
   pub writer-length : length Wr ≡ length Wr₀
   pub version-length : length Vr ≡ length Vr₀
@@ -64,7 +66,7 @@ pub record Running (file : List ℕ) (counts : Counts) (S₀ Wr₀ Vr₀ Lg₀ S
 -- the lengths are what the tables shown say
 running : (file : List ℕ) (counts : Counts) (S₀ Wr₀ Vr₀ Lg₀ S Wr Vr Lg : List ℕ) (n : ℕ) → n ≤ counts .events → counts .events ≤ 16000
     → Reached (lateLook (counts .fields)) (end (counts .workers) (counts .fields)) file n
-    → Shows (counts .workers) (before [] (recordingOf (eventsIn file)) n) S₀ Wr₀ Vr₀ Lg₀ S Wr Vr Lg
+    → Shows (counts .workers) (before [] (actsIn file) n) S₀ Wr₀ Vr₀ Lg₀ S Wr Vr Lg
     → Running file counts S₀ Wr₀ Vr₀ Lg₀ S Wr Vr Lg n
 running file counts S₀ Wr₀ Vr₀ Lg₀ S Wr Vr Lg n l k p shows = record {
   low = l;
@@ -94,7 +96,7 @@ module _ (file : List ℕ) (counts : Counts) (S₀ Wr₀ Vr₀ Lg₀ : List ℕ)
   -- before event n
   module _ (S Wr Vr Lg : List ℕ) (n : ℕ) (run : Running file counts S₀ Wr₀ Vr₀ Lg₀ S Wr Vr Lg n) where
     abbrev now : History
-    now = before [] (recordingOf (eventsIn file)) n
+    now = before [] (actsIn file) n
 
     inside : ActsWithin (counts .workers) (counts .fields) now
     inside =
@@ -120,7 +122,7 @@ module _ (file : List ℕ) (counts : Counts) (S₀ Wr₀ Vr₀ Lg₀ : List ℕ)
     pub run-end : (v : papers.Verdict) → counts .events ≤ n → v ≡ endBy (staleFieldBy (counts .fields) Lg Vr Wr) (counts .events) 0 (counts .workers)
         → Ran file counts v S₀ Wr₀ Vr₀ Lg₀ S Wr Vr Lg
     run-end v l q = record {
-      answer = says ∙ sym (reached-end course n (run .so-far) l);
+      answer = rw (← ready .checked .workers, ← ready .checked .fields) (says ∙ sym (reached-end course n (run .so-far) l));
       shows = rw (all-shown (end-looked (counts .fields) now n 0 (counts .workers))) (run .shows);
     }
       where
@@ -140,43 +142,50 @@ module _ (file : List ℕ) (counts : Counts) (S₀ Wr₀ Vr₀ Lg₀ : List ℕ)
 
     module _ (l : n < counts .events) where
       abbrev event : List Act
-      event = actsOf (eventAt file n)
+      event = actsOf (deedAt file n)
 
       event-inside : ActsWithin (counts .workers) (counts .fields) event
       event-inside =
           event-within course n (run .so-far) l
 
-      pub run-room : (e : Event) → e ≡ eventAt file n → Room (counts .fields) e S Wr Vr Lg
-      run-room e q =
-          rw q
-          (room-shown (counts .workers) (counts .fields) (good .few-workers) (good .few-fields) (eventsIn file) n (omega (arith, run .short)) (eventAt file n) (good .event-within n l) S₀ Wr₀ Vr₀ Lg₀ S Wr Vr Lg (run .shows))
+      -- Event n does d. The loop has it from the event and the number of plain fields.
+      module _ (plain : ℕ) (p : plain ≡ flagsFrom (fieldLabel file) (counts .fields)) (e : Event) (t : e ≡ eventAt file n) (d : Deed) (k : d ≡ deedOf plain e) where
+        does : d ≡ deedAt file n
+        does = file-does file counts good (ready .checked) n plain p e t d k
 
-      module _ (e : Event) (q : e ≡ eventAt file n) (r : Verdict) (S′ Wr′ Vr′ Lg′ : List ℕ)
-          (step : Stepped (counts .workers) (counts .fields) n (actsOf e) (verdictOf r) S Wr Vr Lg S′ Wr′ Vr′ Lg′) where
-        -- what the words say of event n is the late look at it
-        stepped : Stepped (counts .workers) (counts .fields) n event (verdictOf r) S Wr Vr Lg S′ Wr′ Vr′ Lg′
-        stepped = rw q at step
+        pub run-room : Room (counts .fields) d S Wr Vr Lg
+        run-room =
+            rw does
+            (room-shown (counts .workers) (counts .fields) (firstFlag file) (good .few-workers) (good .few-fields) (eventsIn file) n (omega (arith, run .short)) (deedAt file n) (file-deed file counts good n l) S₀ Wr₀ Vr₀ Lg₀ S Wr Vr Lg (run .shows))
 
-        says : verdictOf r ≡ firstOf (lateLook (counts .fields) now n) event
-        says =
-            step-says (counts .workers) (counts .fields) (good .few-workers) (good .few-fields) now inside n event event-inside (verdictOf r) S₀ Wr₀ Vr₀ Lg₀ S Wr Vr Lg S′ Wr′ Vr′ Lg′ (run .shows) stepped (run .so-far .calm)
+        module _ (r : Verdict) (S′ Wr′ Vr′ Lg′ : List ℕ)
+            (step : Stepped (counts .workers) (counts .fields) n (actsOf d) (verdictOf r) S Wr Vr Lg S′ Wr′ Vr′ Lg′) where
+          -- what the words say of event n is the late look at it
+          stepped : Stepped (counts .workers) (counts .fields) n event (verdictOf r) S Wr Vr Lg S′ Wr′ Vr′ Lg′
+          stepped = rw does at step
 
-        pub run-next : r ≡ Accepted → Running file counts S₀ Wr₀ Vr₀ Lg₀ S′ Wr′ Vr′ Lg′ (n + 1)
-        run-next o =
-            let later =
-            reached-next course n (run .so-far) l
-            (sym says ∙ ap verdictOf o) in
-            let history = history-next course n (run .so-far) l in
-            running file counts S₀ Wr₀ Vr₀ Lg₀ S′ Wr′ Vr′ Lg′ (n + 1) (omega arith) (run .short) later
-            (rw history
-            (step-passed (counts .workers) (counts .fields) (good .few-workers) (good .few-fields) now inside n event event-inside (verdictOf r) S₀ Wr₀ Vr₀ Lg₀ S Wr Vr Lg S′ Wr′ Vr′ Lg′ (run .shows) stepped (ap verdictOf o) (rw history at (later .calm))))
+          says : verdictOf r ≡ firstOf (lateLook (counts .fields) now n) event
+          says =
+              step-says (counts .workers) (counts .fields) (good .few-workers) (good .few-fields) now inside n event event-inside (verdictOf r) S₀ Wr₀ Vr₀ Lg₀ S Wr Vr Lg S′ Wr′ Vr′ Lg′ (run .shows) stepped (run .so-far .calm)
 
-        pub run-stop : (m a : ℕ) (w u : Worker) (f : Field) → r ≡ Reported m a w u f → Ran file counts (verdictOf r) S₀ Wr₀ Vr₀ Lg₀ S′ Wr′ Vr′ Lg′
-        run-stop m a w u f o =
-            let o′ = ap verdictOf o in
-            record {
-              answer = o′ ∙ sym (reached-stop course n (run .so-far) l m a (w .0) (u .0) (f .0) (sym says ∙ o′));
-              shows =
-                  rw (history-stop course n (run .so-far) l (verdictOf r) m a (w .0) (u .0) (f .0) says o′)
-                  (step-stopped (counts .workers) (counts .fields) (good .few-workers) (good .few-fields) now inside n event event-inside (verdictOf r) S₀ Wr₀ Vr₀ Lg₀ S Wr Vr Lg S′ Wr′ Vr′ Lg′ (run .shows) stepped m a (w .0) (u .0) (f .0) o′);
-            }
+          pub run-next : r ≡ Accepted → Running file counts S₀ Wr₀ Vr₀ Lg₀ S′ Wr′ Vr′ Lg′ (n + 1)
+          run-next o =
+              let later =
+              reached-next course n (run .so-far) l
+              (sym says ∙ ap verdictOf o) in
+              let history = history-next course n (run .so-far) l in
+              running file counts S₀ Wr₀ Vr₀ Lg₀ S′ Wr′ Vr′ Lg′ (n + 1) (omega arith) (run .short) later
+              (rw history
+              (step-passed (counts .workers) (counts .fields) (good .few-workers) (good .few-fields) now inside n event event-inside (verdictOf r) S₀ Wr₀ Vr₀ Lg₀ S Wr Vr Lg S′ Wr′ Vr′ Lg′ (run .shows) stepped (ap verdictOf o) (rw history at (later .calm))))
+
+          pub run-stop : (m a : ℕ) (w u : Worker) (f : Field) → r ≡ Reported m a w u f → Ran file counts (verdictOf r) S₀ Wr₀ Vr₀ Lg₀ S′ Wr′ Vr′ Lg′
+          run-stop m a w u f o =
+              let o′ = ap verdictOf o in
+              record {
+                answer =
+                    rw (← ready .checked .workers, ← ready .checked .fields)
+                    (o′ ∙ sym (reached-stop course n (run .so-far) l m a (w .0) (u .0) (f .0) (sym says ∙ o′)));
+                shows =
+                    rw (history-stop course n (run .so-far) l (verdictOf r) m a (w .0) (u .0) (f .0) says o′)
+                    (step-stopped (counts .workers) (counts .fields) (good .few-workers) (good .few-fields) now inside n event event-inside (verdictOf r) S₀ Wr₀ Vr₀ Lg₀ S Wr Vr Lg S′ Wr′ Vr′ Lg′ (run .shows) stepped m a (w .0) (u .0) (f .0) o′);
+              }

@@ -11,8 +11,9 @@ use lib.Dec.{eqb, ltb}
 use lib.ListN.{length, getD}
 use borrow.Author.Tests.{ltb-false}
 use Rattle.events.specs.declared.Event.{Event}
-use Rattle.events.specs.declared.Event.the-variants.{Read, Write, Crossing}
-use Rattle.events.specs.Acts.{Act, History, recordingOf, entered, before, EventWithin, reads, writes, crosses}
+use Rattle.events.specs.declared.Deed.{Deed}
+use Rattle.events.specs.declared.Deed.the-variants.{Reads, Writes, Crosses, Signals}
+use Rattle.events.specs.Acts.{Act, History, recordingOf, entered, before, DeedWithin, reads, writes, crosses}
 use Rattle.events.specs.Stretches.{hasWritten, staleRead, wroteLast}
 use Rattle.events.specs.Clashes.{OnWritten}
 use Rattle.events.specs.Words.{stretchWord, writerWord, versionWord, once, logWord}
@@ -198,28 +199,29 @@ version-entered h (a ∷ more) f =
     let y = version-next a h f in
     omega arith
 
--- an event is one act, so a version is at most the events so far
-version-low : (es : List Event) (n f : ℕ) → versionWord (before [] (recordingOf es) n) f ≤ n
+-- an event has at most two acts, so a version is at most twice the events so far
+version-low : (P : ℕ) (es : List Event) (n f : ℕ) → versionWord (before [] (recordingOf P es) n) f ≤ 2 * n
 unfolding before versionWord
-version-low es zero f = omega arith
-version-low es (suc n) f =
-    let x = version-low es n f in
-    let y = version-entered (before [] (recordingOf es) n) (getD (recordingOf es) n []) f in
-    let z = event-short es n in
+version-low P es zero f = omega arith
+version-low P es (suc n) f =
+    let x = version-low P es n f in
+    let y = version-entered (before [] (recordingOf P es) n) (getD (recordingOf P es) n []) f in
+    let z = event-short P es n in
     rw before-next (omega arith)
 
-event-wider : (W G F : ℕ) → W ≤ G → (e : Event) → EventWithin W F e → EventWithin G F e
-event-wider W G F l (Read w f) i = (omega arith, i .1)
-event-wider W G F l (Write w f) i = (omega arith, i .1)
-event-wider W G F l (Crossing w) i = omega arith
+deed-wider : (W G F : ℕ) → W ≤ G → (d : Deed) → DeedWithin W F d → DeedWithin G F d
+deed-wider W G F l (Reads w f) i = (omega arith, i .1)
+deed-wider W G F l (Writes w f) i = (omega arith, i .1)
+deed-wider W G F l (Crosses w) i = omega arith
+deed-wider W G F l (Signals w) i = omega arith
 
 -- on tables that show the events before event n, a step can be taken
-pub room-shown : (W F : ℕ) → W ≤ 16 → F ≤ 512 → (es : List Event) (n : ℕ) → n ≤ 16000 → (e : Event) → EventWithin W F e
-    → (S₀ Wr₀ Vr₀ Lg₀ S Wr Vr Lg : List ℕ) → Shows W (before [] (recordingOf es) n) S₀ Wr₀ Vr₀ Lg₀ S Wr Vr Lg → Room F e S Wr Vr Lg
+pub room-shown : (W F P : ℕ) → W ≤ 16 → F ≤ 512 → (es : List Event) (n : ℕ) → n ≤ 16000 → (d : Deed) → DeedWithin W F d
+    → (S₀ Wr₀ Vr₀ Lg₀ S Wr Vr Lg : List ℕ) → Shows W (before [] (recordingOf P es) n) S₀ Wr₀ Vr₀ Lg₀ S Wr Vr Lg → Room F d S Wr Vr Lg
 unfolding stretchWord
-room-shown W F few fit es n l e i S₀ Wr₀ Vr₀ Lg₀ S Wr Vr Lg shows = record {
+room-shown W F P few fit es n l d i S₀ Wr₀ Vr₀ Lg₀ S Wr Vr Lg shows = record {
   fields = fit;
-  inside = event-wider W 16 F few e i;
+  inside = deed-wider W 16 F few d i;
   sized = record {
     stretch = shown-length 16 (stretchWord W h) S₀ S (shows .stretch);
     writer = shown-length 512 (writerWord h) Wr₀ Wr (shows .writer);
@@ -227,13 +229,13 @@ room-shown W F few fit es n l e i S₀ Wr₀ Vr₀ Lg₀ S Wr Vr Lg shows = reco
     log = shown-length 8192 (cells (logWord h)) Lg₀ Lg (shows .log);
   };
   numbers = λ w a.
-      let q = stretch-low es n w in
+      let q = stretch-low P es n w in
       rw (shows .stretch .words w a) (bool (ltb w W) (λ t. rw t (omega arith)) (λ t. rw t (omega arith)));
-  versions = λ f a. rw (shows .version .words f (omega arith)) (omega (arith, version-low es n f));
+  versions = λ f a. rw (shows .version .words f (omega arith)) (omega (arith, version-low P es n f));
 }
   where
     h : History
-    h = before [] (recordingOf es) n
+    h = before [] (recordingOf P es) n
 
 -- A step on tables that show h says what the late look says. If that is no report, its tables show the longer history; else they show h.
 module _ (W F : ℕ) (few : W ≤ 16) (fit : F ≤ 512) (h : History) (inside : ActsWithin W F h) (n : ℕ) (e : List Act) (acts : ActsWithin W F e) (v : Verdict)

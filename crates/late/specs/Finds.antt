@@ -7,12 +7,12 @@ use lib.Dec.{leb}
 use lib.ListN.{length}
 use Rattle.events.specs.Acts.{History}
 use Rattle.events.specs.Words.{stretchWord, writerWord, versionWord, logWord}
-use Rattle.events.specs.Verdicts.{Verdict, lateVerdict}
+use Rattle.events.specs.Verdicts.{Verdict}
 use Rattle.recording.specs.declared.Fault.{Fault}
-use Rattle.recording.specs.File.{refusal, eventsIn, workerCount, fieldCount}
+use Rattle.recording.specs.File.{refusal, workerCount}
 use Rattle.tables.specs.Lent.{cells}
 use Rattle.tables.specs.Answers.{Said}
-use Rattle.tables.specs.Finds.{said, shownBy, leaving}
+use Rattle.tables.specs.Finds.{lateOf, said, shownBy, leaving}
 
 -- Full lengths: stretch 16, writer 512, version 512, log 8,192.
 abbrev pub fullTables : List ℕ → List ℕ → List ℕ → List ℕ → Bool
@@ -25,7 +25,7 @@ module _ (file S₀ Wr₀ Vr₀ Lg₀ : List ℕ) where
 
   -- the late verdict on the recording in the file, and the history that the tables then show
   abbrev pub verdict : Verdict
-  verdict = lateVerdict (workerCount file) (fieldCount file) (eventsIn file)
+  verdict = lateOf file
 
   abbrev pub history : History
   history = shownBy file verdict

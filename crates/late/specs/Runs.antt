@@ -4,11 +4,11 @@ use mathlib.Core.List.{List, []}
 use Prim.Native.Nat.{ℕ}
 use Rattle.events.specs.Acts.{History}
 use Rattle.events.specs.Words.{stretchWord, writerWord, versionWord, logWord}
-use Rattle.events.specs.Verdicts.{Verdict, lateVerdict}
+use Rattle.events.specs.Verdicts.{Verdict}
 use Rattle.recording.specs.declared.Counts.{Counts}
-use Rattle.recording.specs.File.{Accepted, eventsIn}
+use Rattle.recording.specs.File.{Accepted}
 use Rattle.tables.specs.Lent.{Shown, cells}
-use Rattle.tables.specs.Finds.{shownBy}
+use Rattle.tables.specs.Finds.{lateOf, shownBy}
 
 -- the tables, lent as S₀, Wr₀, Vr₀, Lg₀, show h
 pub record Shows (W : ℕ) (h : History) (S₀ Wr₀ Vr₀ Lg₀ S Wr Vr Lg : List ℕ) : Type 0 where
@@ -24,5 +24,5 @@ pub record Ready (file : List ℕ) (counts : Counts) (S Wr Vr Lg : List ℕ) : T
 
 -- the verdict on the recording in the file, and the tables that show what came before
 pub record Ran (file : List ℕ) (counts : Counts) (v : Verdict) (S₀ Wr₀ Vr₀ Lg₀ S Wr Vr Lg : List ℕ) : Type 0 where
-  pub answer : v ≡ lateVerdict (counts .workers) (counts .fields) (eventsIn file)
+  pub answer : v ≡ lateOf file
   pub shows : Shows (counts .workers) (shownBy file v) S₀ Wr₀ Vr₀ Lg₀ S Wr Vr Lg

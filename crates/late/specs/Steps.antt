@@ -7,8 +7,8 @@ use Prim.Native.Nat.{ℕ, zero, suc, _+_, _*_, _<_, _≤_}
 use lib.Dec.{eqb}
 use lib.ListN.{length, getD, set}
 use Rattle.sorts.specs.Words.{joined}
-use Rattle.events.specs.declared.Event.{Event}
-use Rattle.events.specs.Acts.{Act, EventWithin, reads, writes, crosses}
+use Rattle.events.specs.declared.Deed.{Deed}
+use Rattle.events.specs.Acts.{Act, DeedWithin, reads, writes, crosses}
 use Rattle.events.specs.Words.{once}
 use Rattle.events.specs.Verdicts.{Verdict, accepted, reported, firstOf, lateBy}
 use Rattle.tables.specs.Steps.{writerBy, stretchWith, stretchAfter, writerWith, writerAfter}
@@ -61,11 +61,11 @@ pub record Sized (S Wr Vr Lg : List ℕ) : Type 0 where
   pub version : 512 ≤ length Vr
   pub log : 8192 ≤ length Lg
 
--- A step can be taken: the event's numbers are within the limits, each stretch number joins with a worker in one word, and each version can
+-- A step can be taken: the deed's numbers are within the limits, each stretch number joins with a worker in one word, and each version can
 -- be counted on.
-pub record Room (F : ℕ) (e : Event) (S Wr Vr Lg : List ℕ) : Type 0 where
+pub record Room (F : ℕ) (d : Deed) (S Wr Vr Lg : List ℕ) : Type 0 where
   pub fields : F ≤ 512
-  pub inside : EventWithin 16 F e
+  pub inside : DeedWithin 16 F d
   pub sized : Sized S Wr Vr Lg
   pub numbers : (w : ℕ) → w < 16 → getD S w 0 < 268435456
   pub versions : (f : ℕ) → f < F → getD Vr f 0 < 4294967295

@@ -14,7 +14,7 @@ ghost use Rattle.late.specs.Stale.{staleWords, staleFieldBy, firstStale,
 ghost use Rattle.late.specs.Steps.{lateMeets, wroteBy, versionWith, logRead, cleared, Sized, Room, Access, Entered, Stepped};
 ghost use Rattle.late.specs.Runs.{Shows, Ready, Ran};
 ghost use Rattle.late.specs.Finds.{Finds};
-use events::Event;
+use events::Deed;
 use recording::Checked;
 use recording::Counts;
 use sorts::Epoch;
@@ -123,7 +123,7 @@ fn said_of(n: u32, s: Stale) -> Verdict
     }
 }
 
-// What event n meets.
+// What event n meets, by what it does.
 fn look(
     stretch: &[u32],
     writer: &[u32],
@@ -132,21 +132,22 @@ fn look(
     workers: u32,
     fields: u32,
     n: u32,
-    e: Event,
+    d: Deed,
 ) -> Verdict
-    requires { ⌜ Room fields e (now stretch) (now writer) (now version) (now log) ⌝ }
-    ensures { λ r. ⌜ verdictOf r ≡ lateMeets workers fields (now (stretch .entry)) (now (writer .entry)) (now (version .entry)) (now (log .entry)) n (actsOf e) ⌝ }
+    requires { ⌜ Room fields d (now stretch) (now writer) (now version) (now log) ⌝ }
+    ensures { λ r. ⌜ verdictOf r ≡ lateMeets workers fields (now (stretch .entry)) (now (writer .entry)) (now (version .entry)) (now (log .entry)) n (actsOf d) ⌝ }
 {
-    match e {
-        Event::Read(w, f) => match tables::other_writer(stretch, writer, workers, w, f) {
+    match d {
+        Deed::Reads(w, f) => match tables::other_writer(stretch, writer, workers, w, f) {
             Other::Worker(u) => Verdict::Reported(n, 3, w, u, f),
             Other::Nobody => Verdict::Accepted,
         },
-        Event::Write(w, f) => match tables::other_writer(stretch, writer, workers, w, f) {
+        Deed::Writes(w, f) => match tables::other_writer(stretch, writer, workers, w, f) {
             Other::Worker(u) => Verdict::Reported(n, 1, w, u, f),
             Other::Nobody => Verdict::Accepted,
         },
-        Event::Crossing(w) => said_of(n, stale_field(writer, version, log, fields, w)),
+        Deed::Crosses(w) => said_of(n, stale_field(writer, version, log, fields, w)),
+        Deed::Signals(w) => said_of(n, stale_field(writer, version, log, fields, w)),
     }
 }
 
@@ -222,22 +223,32 @@ fn enter_crossing(stretch: &mut [u32], log: &mut [u32], fields: u32, w: Worker)
     clear_log(log, fields, w);
 }
 
-// An event that is not reported.
+// Worker w's access of a flag.
+fn enter_flag(stretch: &mut [u32], log: &mut [u32], fields: u32, w: Worker)
+    requires { ⌜ (w .0 < 16) × (fields ≤ 512) × (16 ≤ length (now stretch)) × (8192 ≤ length (now log)) × (getD (now stretch) (w .0) 0 < 268435456) ⌝ }
+    ensures { λ _. ⌜ (now (stretch .exit) ≡ set (now (stretch .entry)) (w .0) (getD (now (stretch .entry)) (w .0) 0 + 2)) × (now (log .exit) ≡ cleared (now (log .entry)) (w .0) fields) ⌝ }
+{
+    tables::enter_flag(stretch, w);
+    clear_log(log, fields, w);
+}
+
+// What an event does that is not reported.
 fn enter(
     stretch: &mut [u32],
     writer: &mut [u32],
     version: &mut [u32],
     log: &mut [u32],
     fields: u32,
-    e: Event,
+    d: Deed,
 )
-    requires { ⌜ Room fields e (now stretch) (now writer) (now version) (now log) ⌝ }
-    ensures { λ _. ⌜ Entered fields (actsOf e) (now (stretch .entry)) (now (writer .entry)) (now (version .entry)) (now (log .entry)) (now (stretch .exit)) (now (writer .exit)) (now (version .exit)) (now (log .exit)) ⌝ }
+    requires { ⌜ Room fields d (now stretch) (now writer) (now version) (now log) ⌝ }
+    ensures { λ _. ⌜ Entered fields (actsOf d) (now (stretch .entry)) (now (writer .entry)) (now (version .entry)) (now (log .entry)) (now (stretch .exit)) (now (writer .exit)) (now (version .exit)) (now (log .exit)) ⌝ }
 {
-    match e {
-        Event::Read(w, f) => enter_read(stretch, writer, version, log, w, f),
-        Event::Write(w, f) => enter_write(stretch, writer, version, w, f),
-        Event::Crossing(w) => enter_crossing(stretch, log, fields, w),
+    match d {
+        Deed::Reads(w, f) => enter_read(stretch, writer, version, log, w, f),
+        Deed::Writes(w, f) => enter_write(stretch, writer, version, w, f),
+        Deed::Crosses(w) => enter_crossing(stretch, log, fields, w),
+        Deed::Signals(w) => enter_flag(stretch, log, fields, w),
     }
 }
 
@@ -250,14 +261,14 @@ fn step(
     workers: u32,
     fields: u32,
     n: u32,
-    e: Event,
+    d: Deed,
 ) -> Verdict
-    requires { ⌜ Room fields e (now stretch) (now writer) (now version) (now log) ⌝ }
-    ensures { λ r. ⌜ Stepped workers fields n (actsOf e) (verdictOf r) (now (stretch .entry)) (now (writer .entry)) (now (version .entry)) (now (log .entry)) (now (stretch .exit)) (now (writer .exit)) (now (version .exit)) (now (log .exit)) ⌝ }
+    requires { ⌜ Room fields d (now stretch) (now writer) (now version) (now log) ⌝ }
+    ensures { λ r. ⌜ Stepped workers fields n (actsOf d) (verdictOf r) (now (stretch .entry)) (now (writer .entry)) (now (version .entry)) (now (log .entry)) (now (stretch .exit)) (now (writer .exit)) (now (version .exit)) (now (log .exit)) ⌝ }
 {
-    let r = look(stretch, writer, version, log, workers, fields, n, e);
+    let r = look(stretch, writer, version, log, workers, fields, n, d);
     if let Verdict::Accepted = r {
-        enter(stretch, writer, version, log, fields, e);
+        enter(stretch, writer, version, log, fields, d);
     }
     r
 }
@@ -284,9 +295,11 @@ fn run(
 {
     let workers = counts.workers;
     let fields = counts.fields;
+    let plain = flags::first_flag(file, fields);
     for n in 0..counts.events {
         let e = recording::event_at(file, counts, n);
-        let r = step(stretch, writer, version, log, workers, fields, n, e);
+        let d = events::deed_of(plain, e);
+        let r = step(stretch, writer, version, log, workers, fields, n, d);
         if let Verdict::Reported(_, _, _, _, _) = r {
             return r;
         }

@@ -3,13 +3,14 @@ use mathlib.Core.Bool.{true, cond}
 use mathlib.Core.List.{List, [], _∷_, _++_}
 use Prim.Native.Nat.{ℕ}
 use lib.Dec.{eqb}
-use Rattle.events.specs.Verdicts.{Verdict, accepted, reported, earlyVerdict, lateVerdict}
+use Rattle.events.specs.Verdicts.{Verdict, accepted, reported}
 use Rattle.recording.specs.declared.Fault.{Fault}
 use Rattle.recording.specs.declared.Fault.the-variants.{Fine, Refused}
 use Rattle.recording.specs.declared.Counts.{Counts}
-use Rattle.recording.specs.File.{refusal, countsIn, workerCount, fieldCount, eventsIn, workerLabel, fieldLabel}
+use Rattle.recording.specs.File.{refusal, countsIn, workerLabel, fieldLabel}
 use Rattle.tables.specs.Answers.{Said, judged}
 use Rattle.tables.specs.Answers as answers
+use Rattle.tables.specs.Finds.{earlyOf, lateOf}
 use Rattle.bytes.specs.Characters.{ascii}
 use Rattle.lines.specs.Text.{decimal, line}
 
@@ -43,9 +44,7 @@ reportLines file counts e l = traceLine counts ++ (answerLine file (ascii "early
 -- the one line of a refused file, or the three lines of any other
 unfoldable pub printedAfter : Fault → List ℕ → List ℕ
 printedAfter (Refused number place) file = refusedLine number place
-printedAfter Fine file =
-    reportLines file (countsIn file) (judged (earlyVerdict (eventsIn file)))
-    (judged (lateVerdict (workerCount file) (fieldCount file) (eventsIn file)))
+printedAfter Fine file = reportLines file (countsIn file) (judged (earlyOf file)) (judged (lateOf file))
 
 -- all that is printed for a file
 unfoldable pub printed : List ℕ → List ℕ

@@ -5,48 +5,62 @@ use Prim.Native.Nat.{ℕ, _+_, _<_, _≤_}
 use native.Mathlib.Omega.{arith}
 use lib.ListN.{length, getD, drop}
 use Rattle.events.specs.declared.Event.{Event}
-use Rattle.events.specs.declared.Event.the-variants.{Read, Write, Crossing}
-use Rattle.events.specs.Acts.{actsOf, recordingOf, before, EventWithin, eventWorker}
+use Rattle.events.specs.declared.Deed.{Deed}
+use Rattle.events.specs.declared.Deed.the-variants.{Reads, Writes, Crosses, Signals}
+use Rattle.events.specs.Acts.{deedOf, actsOf, before, DeedWithin, deedWorker}
 use Rattle.events.specs.Stretches.{stretchOf}
-use Rattle.events.proofs.Histories.{Sound, recording-sound, recording-length, within-wider, event-is}
+use Rattle.events.proofs.Histories.{Sound, recording-sound, recording-length, deed-within, within-wider, event-is}
 use Rattle.events.proofs.Stretches.{stretch-low}
 use Rattle.recording.specs.declared.Counts.{Counts}
-use Rattle.recording.specs.File.{eventAt, eventsIn}
+use Rattle.recording.specs.File.{Accepted, fieldLabel, eventAt, eventsIn}
 use Rattle.recording.proofs.Guarantee.{Guarantee}
+use Rattle.flags.specs.Flags.{flagsFrom, firstFlag}
+use Rattle.flags.proofs.Flags.{accepted-first-flag}
+use Rattle.tables.specs.Finds.{deedAt, actsIn}
 
 module _ (file : List ℕ) (counts : Counts) (good : Guarantee file counts) where
-  pub file-sound : Sound (counts .workers) (counts .fields) (recordingOf (eventsIn file))
-  file-sound = recording-sound (counts .workers) (counts .fields) (eventsIn file) (good .within)
+  pub file-sound : Sound (counts .workers) (counts .fields) (actsIn file)
+  file-sound = recording-sound (firstFlag file) (counts .workers) (counts .fields) (eventsIn file) (good .within)
 
   -- over all the fields that a table has words for
-  pub file-sound-full : Sound (counts .workers) 512 (recordingOf (eventsIn file))
+  pub file-sound-full : Sound (counts .workers) 512 (actsIn file)
   file-sound-full =
-      recording-sound (counts .workers) 512 (eventsIn file)
+      recording-sound (firstFlag file) (counts .workers) 512 (eventsIn file)
       (within-wider (counts .workers) (counts .fields) 512 (eventsIn file) (good .few-fields) (good .within))
 
-  pub file-length : length (recordingOf (eventsIn file)) ≡ counts .events
-  file-length = recording-length (eventsIn file) ∙ good .count
+  pub file-length : length (actsIn file) ≡ counts .events
+  file-length = recording-length (firstFlag file) (eventsIn file) ∙ good .count
 
   module _ (n : ℕ) (l : n < counts .events) where
-    pub file-event : getD (recordingOf (eventsIn file)) n [] ≡ actsOf (eventAt file n)
-    file-event = event-is (eventsIn file) (drop (n + 1) (eventsIn file)) n (eventAt file n) (good .next n l)
+    pub file-event : getD (actsIn file) n [] ≡ actsOf (deedAt file n)
+    file-event = event-is (firstFlag file) (eventsIn file) (drop (n + 1) (eventsIn file)) n (eventAt file n) (good .next n l)
 
-    full : (e : Event) → EventWithin (counts .workers) (counts .fields) e → EventWithin 16 512 e
-    full (Read w f) i = (omega (arith, i .0, good .few-workers), omega (arith, i .1, good .few-fields))
-    full (Write w f) i = (omega (arith, i .0, good .few-workers), omega (arith, i .1, good .few-fields))
-    full (Crossing w) i = omega (arith, i, good .few-workers)
+    pub file-deed : DeedWithin (counts .workers) (counts .fields) (deedAt file n)
+    file-deed = deed-within (counts .workers) (counts .fields) (firstFlag file) (eventAt file n) (good .event-within n l)
 
-    pub file-numbers : EventWithin 16 512 (eventAt file n)
-    file-numbers = full (eventAt file n) (good .event-within n l)
+    full : (d : Deed) → DeedWithin (counts .workers) (counts .fields) d → DeedWithin 16 512 d
+    full (Reads w f) i = (omega (arith, i .0, good .few-workers), omega (arith, i .1, good .few-fields))
+    full (Writes w f) i = (omega (arith, i .0, good .few-workers), omega (arith, i .1, good .few-fields))
+    full (Crosses w) i = omega (arith, i, good .few-workers)
+    full (Signals w) i = omega (arith, i, good .few-workers)
 
-    its-worker : (e : Event) → EventWithin (counts .workers) (counts .fields) e → eventWorker e < counts .workers
-    its-worker (Read w f) i = i .0
-    its-worker (Write w f) i = i .0
-    its-worker (Crossing w) i = i
+    pub file-numbers : DeedWithin 16 512 (deedAt file n)
+    file-numbers = full (deedAt file n) file-deed
 
-    pub file-worker : eventWorker (eventAt file n) < counts .workers
-    file-worker = its-worker (eventAt file n) (good .event-within n l)
+    its-worker : (d : Deed) → DeedWithin (counts .workers) (counts .fields) d → deedWorker d < counts .workers
+    its-worker (Reads w f) i = i .0
+    its-worker (Writes w f) i = i .0
+    its-worker (Crosses w) i = i
+    its-worker (Signals w) i = i
 
-  -- 16,000 crossings still fit a writer word
-  pub file-stretch : (n w : ℕ) → n ≤ counts .events → stretchOf (before [] (recordingOf (eventsIn file)) n) w < 268435456
-  file-stretch n w l = omega (arith, stretch-low (eventsIn file) n w, good .few-events)
+    pub file-worker : deedWorker (deedAt file n) < counts .workers
+    file-worker = its-worker (deedAt file n) file-deed
+
+  -- what a finder's loop has event n do, with the number of plain fields that the flags gave
+  pub file-does : Accepted file counts → (n plain : ℕ) → plain ≡ flagsFrom (fieldLabel file) (counts .fields) → (e : Event) → e ≡ eventAt file n
+      → (d : Deed) → d ≡ deedOf plain e → d ≡ deedAt file n
+  file-does ok n plain p e t d k = k ∙ rw (t, accepted-first-flag file counts plain ok p)
+
+  -- 2 * 16,000 + 1, after accesses of flags alone, still joins with a worker into a writer word
+  pub file-stretch : (n w : ℕ) → n ≤ counts .events → stretchOf (before [] (actsIn file) n) w < 268435456
+  file-stretch n w l = omega (arith, stretch-low (firstFlag file) (eventsIn file) n w, good .few-events)

@@ -108,6 +108,15 @@ pub fn enter_crossing(stretch: &mut [u32], w: Worker)
     stretch[i] += 1;
 }
 
+// Worker w's access of a flag: two crossings.
+pub fn enter_flag(stretch: &mut [u32], w: Worker)
+    requires { ⌜ (w .0 < 16) × (16 ≤ length (now stretch)) × (getD (now stretch) (w .0) 0 < 268435456) ⌝ }
+    ensures { λ _. ⌜ now (stretch .exit) ≡ set (now (stretch .entry)) (w .0) (getD (now (stretch .entry)) (w .0) 0 + 2) ⌝ }
+{
+    let i = w.0 as usize;
+    stretch[i] += 2;
+}
+
 // The first n words become v.
 pub fn fill(table: &mut [u32], n: usize, v: u32)
     requires { ⌜ n ≤ length (now table) ⌝ }

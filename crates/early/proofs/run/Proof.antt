@@ -6,17 +6,23 @@ use Rattle.early.proofs.run.Statement.{statement}
 use Rattle.early.proofs.run.Tie as tie
 
 abbrev Inv-loop : tie.InvT-loop
-Inv-loop file counts stretch₀ writer₀ readers₀ workers n₀ n-end stretch writer readers n =
+Inv-loop file counts stretch₀ writer₀ readers₀ workers plain n₀ n-end stretch writer readers n =
     Running file counts stretch₀ writer₀ readers₀ stretch writer readers n
 
 abbrev μ-loop : tie.MeasureT-loop
-μ-loop file counts stretch₀ writer₀ readers₀ workers n₀ n-end stretch writer readers n = counts .events - n
+μ-loop file counts stretch₀ writer₀ readers₀ workers plain n₀ n-end stretch writer readers n = counts .events - n
+
+first-flag-requires : tie.Need-first-flag-requires Inv-loop μ-loop
+first-flag-requires c κs = search needs
 
 loop-holds : tie.Need-loop-holds Inv-loop μ-loop
 loop-holds c = search run-start
 
 event-at-requires : tie.Need-event-at-requires Inv-loop μ-loop
 event-at-requires c κs = search needs
+
+deed-of-requires : tie.Need-deed-of-requires Inv-loop μ-loop
+deed-of-requires c κs = search needs
 
 step-requires : tie.Need-step-requires Inv-loop μ-loop
 step-requires c κs = search run-room
@@ -47,9 +53,9 @@ loop-less c = search needs
 
 loop-again : tie.Need-loop-again Inv-loop μ-loop
 loop-again c =
-    let at-loop = c .before .before .before .before .before .before .before .before .before .before .before .before .before .before in
+    let at-loop = c .before .before .before .before .before .before .before .before .before .before .before .before .before .before .before in
     let at-step = c .before .before .before .before .before .before .before .before in
-    search (run-next, at-loop .before .before .before .before .before .pre, at-loop .loop .inv, at-step .step .ensures)
+    search (run-next, at-loop .before .before .before .before .before .before .pre, at-loop .loop .inv, at-step .step .ensures)
 
 same-length-4 : tie.Need-same-length-4 Inv-loop μ-loop
 same-length-4 c = search needs
@@ -69,8 +75,10 @@ run-spec =
     (tie.spec
     Inv-loop
     μ-loop
+    first-flag-requires
     loop-holds
     event-at-requires
+    deed-of-requires
     step-requires
     enum-told
     same-length

@@ -6,18 +6,24 @@ use Rattle.late.proofs.run.Statement.{statement}
 use Rattle.late.proofs.run.Tie as tie
 
 abbrev Inv-loop : tie.InvT-loop
-Inv-loop file counts stretch₀ writer₀ version₀ log₀ workers fields n₀ n-end stretch writer version log n =
+Inv-loop file counts stretch₀ writer₀ version₀ log₀ workers fields plain n₀ n-end stretch writer version log n =
     Running file counts stretch₀ writer₀ version₀ log₀ stretch writer version log n
 
 abbrev μ-loop : tie.MeasureT-loop
-μ-loop file counts stretch₀ writer₀ version₀ log₀ workers fields n₀ n-end stretch writer version log n =
+μ-loop file counts stretch₀ writer₀ version₀ log₀ workers fields plain n₀ n-end stretch writer version log n =
     counts .events - n
+
+first-flag-requires : tie.Need-first-flag-requires Inv-loop μ-loop
+first-flag-requires c κs = search needs
 
 loop-holds : tie.Need-loop-holds Inv-loop μ-loop
 loop-holds c = search run-start
 
 event-at-requires : tie.Need-event-at-requires Inv-loop μ-loop
 event-at-requires c κs = search needs
+
+deed-of-requires : tie.Need-deed-of-requires Inv-loop μ-loop
+deed-of-requires c κs = search needs
 
 step-requires : tie.Need-step-requires Inv-loop μ-loop
 step-requires c κs = search run-room
@@ -51,9 +57,9 @@ loop-less c = search needs
 
 loop-again : tie.Need-loop-again Inv-loop μ-loop
 loop-again c =
-    let at-loop = c .before .before .before .before .before .before .before .before .before .before .before .before .before .before .before .before .before in
+    let at-loop = c .before .before .before .before .before .before .before .before .before .before .before .before .before .before .before .before .before .before in
     let at-step = c .before .before .before .before .before .before .before .before .before .before in
-    search (run-next, at-loop .before .before .before .before .before .before .pre, at-loop .loop .inv, at-step .step .ensures)
+    search (run-next, at-loop .before .before .before .before .before .before .before .pre, at-loop .loop .inv, at-step .step .ensures)
 
 end-requires : tie.Need-end-requires Inv-loop μ-loop
 end-requires c κs = search (needs, end-workers, end-fields, end-writer, end-version, end-log)
@@ -79,8 +85,10 @@ run-spec =
     (tie.spec
     Inv-loop
     μ-loop
+    first-flag-requires
     loop-holds
     event-at-requires
+    deed-of-requires
     step-requires
     enum-told
     same-length

@@ -1,0 +1,2 @@
+-- What must be believed of flags.
+pub mod Flags
