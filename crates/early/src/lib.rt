@@ -80,7 +80,7 @@ fn enter_read(stretch: &[u32], readers: &mut [u32], w: Worker, f: Field)
     ensures { λ _. ⌜ now (readers .exit) ≡ set (now (readers .entry)) (16 * f .0 + w .0) (getD (now (stretch .entry)) (w .0) 0) ⌝ }
 {
     let i = w.0 as usize;
-    let j = tables::WORKERS * (f.0 as usize) + i;
+    let j = tables::place(w, f);
     readers[j] = stretch[i];
 }
 

@@ -1,23 +1,20 @@
 -- What each way through the code's functions answers, over plain numbers and lists.
-use mathlib.Core.Path.{_≡_, refl, sym, _∙_}
-use mathlib.Core.Bool.{Bool, true, false, not, and-false}
+use mathlib.Core.Path.{_≡_, sym, _∙_}
+use mathlib.Core.Bool.{Bool, true, false}
 use mathlib.Core.List.{List}
-use Prim.Native.Nat.{ℕ, zero, suc, _+_, _*_, _-_, _<_, _≤_}
-use native.Mathlib.Nat.{sub-zero}
+use Prim.Native.Nat.{ℕ, _+_, _*_, _<_}
 use native.Mathlib.Omega.{arith}
 use lib.Dec.{eqb}
 use lib.ListN.{getD, set}
-use borrow.Author.Tests.{lt-ltb, le-ltb, le-leb, lt-leb, ne-eqb}
-use Rattle.sorts.proofs.Counting.{one-left, none-left}
+use borrow.Author.Tests.{ne-eqb}
 use Rattle.sorts.specs.declared.Worker.{Worker}
 use Rattle.sorts.specs.declared.Field.{Field}
-use Rattle.sorts.specs.Words.{joined, workerIn}
+use Rattle.sorts.specs.Words.{joined}
 use Rattle.events.specs.declared.Deed.{Deed}
 use Rattle.events.specs.declared.Deed.the-variants.{Reads, Writes, Crosses, Signals}
 use Rattle.events.specs.Acts.{Act, actsOf, writes}
-use Rattle.events.specs.Words.{once, staleByWords}
-use Rattle.events.specs.Search.{lowest}
-use Rattle.events.specs.Verdicts.{accepted, reported, firstOf, endBy}
+use Rattle.events.specs.Words.{once}
+use Rattle.events.specs.Verdicts.{accepted, reported, firstOf, staleBy}
 use Rattle.events.proofs.Search.{found}
 use Rattle.tables.specs.declared.Other.{Other}
 use Rattle.tables.specs.declared.Other.the-variants.{Worker as Other-worker, Nobody}
@@ -26,9 +23,7 @@ use Rattle.tables.specs.declared.Verdict.the-variants.{Accepted, Reported}
 use Rattle.tables.specs.Answers.{foundOf, verdictOf}
 use Rattle.tables.specs.Steps.{writerBy, stretchWith, stretchAfter, writerWith, writerAfter}
 use Rattle.tables.proofs.Laws.{stretch-flag}
-use Rattle.late.specs.declared.Stale.{Stale}
-use Rattle.late.specs.declared.Stale.the-variants.{At, Nowhere}
-use Rattle.late.specs.Stale.{staleWords, staleFieldBy, staleOr, firstStale, saidOf}
+use Rattle.stale.specs.Stale.{staleFieldBy}
 use Rattle.late.specs.Steps.{lateMeets, wroteBy, versionWith, versionAfter, cleared, logRead, logWith, logAfter, Room, Access, Entered, Stepped}
 use Rattle.late.proofs.Columns.{cleared-twice}
 
@@ -36,88 +31,6 @@ use Rattle.late.proofs.Columns.{cleared-twice}
 pub wrote-is : (S Wr : List ℕ) (w f word : ℕ) → word ≡ joined (getD S w 0) w → eqb (getD Wr f 0) word ≡ wroteBy S Wr w f
 unfolding wroteBy
 wrote-is S Wr w f word q = rw q
-
--- the test of one field's words
-module _ (log version last w : ℕ) where
-  pub unlogged : log ≡ 0 → false ≡ staleByWords log version last w
-  unfolding staleByWords
-  unlogged q = rw q
-
-  pub risen-by-two : (log ≡ 0 → ⊥) → log < version → true ≡ staleByWords log version last w
-  unfolding staleByWords
-  risen-by-two q l = rw (lt-ltb 0 log (omega arith), lt-ltb log version l)
-
-  pub not-risen : version < log → false ≡ staleByWords log version last w
-  unfolding staleByWords
-  not-risen l = simp (le-ltb log version (omega arith), lt-leb log version l, and-false)
-
-  pub risen-by-one : (log ≡ 0 → ⊥) → version ≤ log → log ≤ version → not (eqb last w) ≡ staleByWords log version last w
-  unfolding staleByWords
-  risen-by-one q a b = rw (lt-ltb 0 log (omega arith), le-ltb log version a, le-leb log version b)
-
-pub stale-is : (Lg Vr Wr : List ℕ) (w f j last : ℕ) (b : Bool) → j ≡ 16 * f + w → last ≡ workerIn (getD Wr f 0)
-    → b ≡ staleByWords (getD Lg j 0) (getD Vr f 0) last w → b ≡ staleWords Lg Vr Wr w f
-unfolding staleWords
-stale-is Lg Vr Wr w f j last b p q t = t ∙ rw (p, q)
-
--- what the search for a stale read has left from worker w's field f on, of n workers and F fields
-unfoldable pub staleFrom : ℕ → List ℕ → List ℕ → List ℕ → ℕ → ℕ → ℕ → Stale
-staleFrom F Lg Vr Wr n w f = staleOr w (lowest (staleWords Lg Vr Wr w) f (F - f)) (firstStale F Lg Vr Wr (w + 1) (n - (w + 1)))
-
--- the search has come to worker w, or to its field f, and what is left finds x
-module _ (F : ℕ) (Lg Vr Wr : List ℕ) (n w : ℕ) (x : Stale) where
-  pub search-worker : firstStale F Lg Vr Wr w (n - w) ≡ x → w < n → staleFrom F Lg Vr Wr n w 0 ≡ x
-  unfolding firstStale staleFrom
-  search-worker i l = rw sub-zero (rw (one-left w n l) at i)
-
-  pub search-over : (found : Stale) → firstStale F Lg Vr Wr w (n - w) ≡ x → n ≤ w → found ≡ Nowhere → found ≡ x
-  unfolding firstStale
-  search-over found i l e = e ∙ (rw (none-left w n l) at i)
-
-  module _ (f : ℕ) (i : staleFrom F Lg Vr Wr n w f ≡ x) where
-    pub field-stale : (b : Bool) → f < F → b ≡ staleWords Lg Vr Wr w f → b ≡ true → At (record { 0 = w }) (record { 0 = f }) ≡ x
-    unfolding lowest staleFrom
-    field-stale b l t e = rw (one-left f F l, ← t, e) at i
-
-    pub field-fresh : (b : Bool) → f < F → b ≡ staleWords Lg Vr Wr w f → b ≡ false → staleFrom F Lg Vr Wr n w (f + 1) ≡ x
-    unfolding lowest staleFrom
-    field-fresh b l t e = rw (one-left f F l, ← t, e) at i
-
-    pub fields-over : F ≤ f → firstStale F Lg Vr Wr (w + 1) (n - (w + 1)) ≡ x
-    unfolding lowest staleFrom
-    fields-over l = rw (none-left f F l) at i
-
--- the same search of one worker
-module _ (F : ℕ) (Lg Vr Wr : List ℕ) (w : Worker) where
-  alone : w .0 + 1 - (w .0 + 1) ≡ 0
-  alone = omega arith
-
-  pub one-worker : staleFrom F Lg Vr Wr (w .0 + 1) (w .0) 0 ≡ firstStale F Lg Vr Wr (w .0) 1
-  unfolding firstStale staleFrom
-  one-worker = rw (sub-zero, alone)
-
-  module _ (f : ℕ) (x : Stale) (i : staleFrom F Lg Vr Wr (w .0 + 1) (w .0) f ≡ x) where
-    pub one-worker-stale : (b : Bool) → f < F → b ≡ staleWords Lg Vr Wr (w .0) f → b ≡ true → At w (record { 0 = f }) ≡ x
-    one-worker-stale b l t e = field-stale F Lg Vr Wr (w .0 + 1) (w .0) x f i b l t e
-
-    pub one-worker-over : F ≤ f → Nowhere ≡ x
-    unfolding firstStale
-    one-worker-over l = rw alone at (fields-over F Lg Vr Wr (w .0 + 1) (w .0) x f i l)
-
--- What the search found, said as document 01 says it.
-module _ (F : ℕ) (Lg Vr Wr : List ℕ) (n : ℕ) where
-  said-first : (w k : ℕ) → saidOf n (firstStale F Lg Vr Wr w k) ≡ endBy (staleFieldBy F Lg Vr Wr) n w k
-  unfolding firstStale endBy
-  said-first w zero = refl
-  said-first w (suc k) =
-      found (staleFieldBy F Lg Vr Wr w) (λ f q. rw q) (λ q. rw q (said-first (w + 1) k))
-
-  pub said-at-end : (W : ℕ) (s : Stale) (r : Verdict) → s ≡ firstStale F Lg Vr Wr 0 W → verdictOf r ≡ saidOf n s
-      → verdictOf r ≡ endBy (staleFieldBy F Lg Vr Wr) n 0 W
-  said-at-end W s r p q = q ∙ rw p (said-first 0 W)
-
-pub said-at : (n : ℕ) (s : Stale) (w : Worker) (f : Field) → s ≡ At w f → reported n 2 (w .0) 16 (f .0) ≡ saidOf n s
-said-at n s w f q = rw q
 
 -- a deed's worker and field, once the code has found its kind
 module _ (F : ℕ) (d : Deed) (S Wr Vr Lg : List ℕ) (room : Room F d S Wr Vr Lg) (w : Worker) where
@@ -175,16 +88,15 @@ module _ (W F : ℕ) (S Wr Vr Lg : List ℕ) (n : ℕ) (d : Deed) (w : Worker) w
     unfolding lateMeets firstOf
     write-calm q y = rw (q, ← x, y)
 
-  pub crossing-met : (s : Stale) (r : Verdict) → d ≡ Crosses w → s ≡ firstStale F Lg Vr Wr (w .0) 1 → verdictOf r ≡ saidOf n s
-      → verdictOf r ≡ lateMeets W F S Wr Vr Lg n (actsOf d)
-  unfolding lateMeets firstOf endBy
-  crossing-met s r q x y = y ∙ rw (x, q) (said-first F Lg Vr Wr n (w .0) 1)
+  module _ (r : Verdict) (x : verdictOf r ≡ staleBy (staleFieldBy F Lg Vr Wr) n (w .0)) where
+    pub crossing-met : d ≡ Crosses w → verdictOf r ≡ lateMeets W F S Wr Vr Lg n (actsOf d)
+    unfolding lateMeets firstOf
+    crossing-met q = x ∙ rw q (found (staleFieldBy F Lg Vr Wr (w .0)) (λ f t. rw t) (λ t. rw t))
 
-  -- both crossings of a flag see the same words
-  pub flag-met : (s : Stale) (r : Verdict) → d ≡ Signals w → s ≡ firstStale F Lg Vr Wr (w .0) 1 → verdictOf r ≡ saidOf n s
-      → verdictOf r ≡ lateMeets W F S Wr Vr Lg n (actsOf d)
-  unfolding lateMeets firstOf firstStale
-  flag-met s r q x y = y ∙ rw (x, q) (found (staleFieldBy F Lg Vr Wr (w .0)) (λ f t. rw t) (λ t. rw t))
+    -- both crossings of a flag see the same words
+    pub flag-met : d ≡ Signals w → verdictOf r ≡ lateMeets W F S Wr Vr Lg n (actsOf d)
+    unfolding lateMeets firstOf
+    flag-met q = x ∙ rw q (found (staleFieldBy F Lg Vr Wr (w .0)) (λ f t. rw t) (λ t. rw t))
 
 -- the version and log words with an access entered; b is whether the worker's open stretch wrote last
 module _ (S Wr Vr : List ℕ) (w f : ℕ) (b : Bool) (t : b ≡ wroteBy S Wr w f) where

@@ -28,7 +28,7 @@ use Rattle.tables.specs.Finds.{deedAt, actsIn, shownBy}
 use Rattle.tables.proofs.Lent.{shown-length}
 use Rattle.tables.proofs.Files.{file-sound, file-deed, file-does}
 use Rattle.tables.proofs.Runs.{Sees, Reached, Course, reached-start, reached-next, reached-stop, reached-end, now-within, event-within, history-next, history-stop, history-end}
-use Rattle.late.specs.Stale.{staleFieldBy}
+use Rattle.stale.specs.Stale.{staleFieldBy}
 use Rattle.late.specs.Steps.{Room, Stepped}
 use Rattle.late.specs.Runs.{Shows, Ready, Ran}
 use Rattle.late.proofs.Shown.{room-shown, end-shown, step-says, step-passed, step-stopped}

@@ -30,7 +30,7 @@ use Rattle.tables.specs.Lent.{cells, filled, Shown}
 use Rattle.tables.specs.Steps.{writerBy, stretchWith, stretchAfter, writerWith, writerAfter}
 use Rattle.tables.proofs.Lent.{shown-length, shown-same, shown-set, shown-cell, eqb-cell}
 use Rattle.tables.proofs.Shown.{shown-stretch, stretch-with, writer-with, writer-shown, stretch-at-start, zero-at-start}
-use Rattle.late.specs.Stale.{staleWords, staleFieldBy}
+use Rattle.stale.specs.Stale.{staleWords, staleFieldBy}
 use Rattle.late.specs.Steps.{lateMeets, wroteBy, versionWith, versionAfter, logRead, logWith, logAfter, Sized, Room, Stepped}
 use Rattle.late.specs.Runs.{Shows}
 use Rattle.late.proofs.Columns.{shown-cleared}

@@ -12,7 +12,7 @@ use Rattle.events.specs.Acts.{Act, DeedWithin, reads, writes, crosses}
 use Rattle.events.specs.Words.{once}
 use Rattle.events.specs.Verdicts.{Verdict, accepted, reported, firstOf, lateBy}
 use Rattle.tables.specs.Steps.{writerBy, stretchWith, stretchAfter, writerWith, writerAfter}
-use Rattle.late.specs.Stale.{staleFieldBy}
+use Rattle.stale.specs.Stale.{staleFieldBy}
 
 -- An event's acts, looked at as event n, before any of them is entered.
 unfoldable pub lateMeets : ℕ → ℕ → List ℕ → List ℕ → List ℕ → List ℕ → ℕ → List Act → Verdict

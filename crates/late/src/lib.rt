@@ -1,16 +1,14 @@
 // The late finder: it counts the stretches that write a field, logs the version that a stretch has read, and looks at the log when a
 // stretch closes.
 ghost use mathlib.Core.Path.{_≡_};
-ghost use Prim.Native.Nat.{_+_, _*_, _<_, _≤_};
+ghost use Prim.Native.Nat.{_+_, _<_, _≤_};
 ghost use mathlib.Core.List.{[]};
 ghost use lib.ListN.{length, getD, set};
 ghost use Rattle.sorts.specs.Words.{joined};
 ghost use Rattle.events.specs.Acts.{actsOf, writes};
-ghost use Rattle.events.specs.Words.{once, staleByWords};
-ghost use Rattle.events.specs.Verdicts.{endBy};
+ghost use Rattle.events.specs.Words.{once};
 ghost use Rattle.recording.specs.File.{Accepted};
 ghost use Rattle.tables.specs.Answers.{verdictOf, saidBy};
-ghost use Rattle.late.specs.Stale.{staleWords, staleFieldBy, firstStale, saidOf};
 ghost use Rattle.late.specs.Steps.{lateMeets, wroteBy, versionWith, logRead, cleared, Sized, Room, Access, Entered, Stepped};
 ghost use Rattle.late.specs.Runs.{Shows, Ready, Ran};
 ghost use Rattle.late.specs.Finds.{Finds};
@@ -26,21 +24,6 @@ use tables::Answer;
 use tables::Other;
 use tables::Verdict;
 
-// What a search for a stale read finds.
-enum Stale {
-    // The worker whose open stretch has read the field, and the field.
-    At(Worker, Field),
-    Nowhere,
-}
-
-// The log word of worker w and field f stands here.
-fn place(w: Worker, f: Field) -> usize
-    requires { ⌜ (w .0 < 16) × (f .0 < 512) ⌝ }
-    ensures { λ r. ⌜ r ≡ 16 * f .0 + w .0 ⌝ }
-{
-    (Worker::LIMIT * f.0 + w.0) as usize
-}
-
 // Was worker w's open stretch the last writer of field f?
 fn wrote_by(stretch: &[u32], writer: &[u32], w: Worker, f: Field) -> bool
     requires { ⌜ (w .0 < 16) × (f .0 < 512) × (16 ≤ length (now stretch)) × (512 ≤ length (now writer)) × (getD (now stretch) (w .0) 0 < 268435456) ⌝ }
@@ -53,74 +36,6 @@ fn wrote_by(stretch: &[u32], writer: &[u32], w: Worker, f: Field) -> bool
         worker: w,
     };
     writer[j] == open.join()
-}
-
-// Has another worker written since w's open stretch logged the version?
-fn stale_by_words(log: u32, version: Version, last: Worker, w: Worker) -> bool
-    ensures { λ r. ⌜ r ≡ staleByWords log (version .0) (last .0) (w .0) ⌝ }
-{
-    if log == 0 {
-        return false;
-    }
-    if log < version.0 {
-        return true;
-    }
-    if version.0 < log {
-        return false;
-    }
-    last.0 != w.0
-}
-
-// Has w's open stretch a stale read of f?
-fn stale_at(writer: &[u32], version: &[u32], log: &[u32], w: Worker, f: Field) -> bool
-    requires { ⌜ (w .0 < 16) × (f .0 < 512) × (512 ≤ length (now writer)) × (512 ≤ length (now version)) × (8192 ≤ length (now log)) ⌝ }
-    ensures { λ r. ⌜ r ≡ staleWords (now (log .entry)) (now (version .entry)) (now (writer .entry)) (w .0) (f .0) ⌝ }
-{
-    let i = f.0 as usize;
-    let j = place(w, f);
-    let now = Version(version[i]);
-    let last = Epoch::part(writer[i]);
-    stale_by_words(log[j], now, last.worker, w)
-}
-
-// The lowest field of which w's open stretch has a stale read.
-fn stale_field(writer: &[u32], version: &[u32], log: &[u32], fields: u32, w: Worker) -> Stale
-    requires { ⌜ (w .0 < 16) × (fields ≤ 512) × (512 ≤ length (now writer)) × (512 ≤ length (now version)) × (8192 ≤ length (now log)) ⌝ }
-    ensures { λ r. ⌜ r ≡ firstStale fields (now (log .entry)) (now (version .entry)) (now (writer .entry)) (w .0) 1 ⌝ }
-{
-    for f in 0..fields {
-        if stale_at(writer, version, log, w, Field(f)) {
-            return Stale::At(w, Field(f));
-        }
-    }
-    Stale::Nowhere
-}
-
-// The first worker and field with a stale read, lowest worker first and then lowest field.
-fn first_stale(writer: &[u32], version: &[u32], log: &[u32], workers: u32, fields: u32) -> Stale
-    requires { ⌜ (workers ≤ 16) × (fields ≤ 512) × (512 ≤ length (now writer)) × (512 ≤ length (now version)) × (8192 ≤ length (now log)) ⌝ }
-    ensures { λ r. ⌜ r ≡ firstStale fields (now (log .entry)) (now (version .entry)) (now (writer .entry)) 0 workers ⌝ }
-{
-    let mut found = Stale::Nowhere;
-    'search: for w in 0..workers {
-        for f in 0..fields {
-            if stale_at(writer, version, log, Worker(w), Field(f)) {
-                found = Stale::At(Worker(w), Field(f));
-                break 'search;
-            }
-        }
-    }
-    found
-}
-
-// A stale read is reported at event n, and the worker that wrote is not recorded.
-fn said_of(n: u32, s: Stale) -> Verdict
-    ensures { λ r. ⌜ verdictOf r ≡ saidOf n s ⌝ }
-{
-    match s {
-        Stale::At(w, f) => Verdict::Reported(n, 2, w, Worker(Worker::LIMIT), f),
-        Stale::Nowhere => Verdict::Accepted,
-    }
 }
 
 // What event n meets, by what it does.
@@ -146,8 +61,8 @@ fn look(
             Other::Worker(u) => Verdict::Reported(n, 1, w, u, f),
             Other::Nobody => Verdict::Accepted,
         },
-        Deed::Crosses(w) => said_of(n, stale_field(writer, version, log, fields, w)),
-        Deed::Signals(w) => said_of(n, stale_field(writer, version, log, fields, w)),
+        Deed::Crosses(w) => stale::at_crossing(writer, version, log, fields, w, n),
+        Deed::Signals(w) => stale::at_crossing(writer, version, log, fields, w, n),
     }
 }
 
@@ -176,7 +91,7 @@ fn enter_read(
         return;
     }
     let i = f.0 as usize;
-    let j = place(w, f);
+    let j = tables::place(w, f);
     let seen = Version(version[i]);
     log[j] = logged(log[j], seen);
 }
@@ -209,7 +124,7 @@ fn clear_log(log: &mut [u32], fields: u32, w: Worker)
     ensures { λ _. ⌜ now (log .exit) ≡ cleared (now (log .entry)) (w .0) fields ⌝ }
 {
     for f in 0..fields {
-        let j = place(w, Field(f));
+        let j = tables::place(w, Field(f));
         log[j] = 0;
     }
 }
@@ -273,14 +188,6 @@ fn step(
     r
 }
 
-// After the last of n events: every worker is looked at as at a crossing.
-fn end(writer: &[u32], version: &[u32], log: &[u32], workers: u32, fields: u32, n: u32) -> Verdict
-    requires { ⌜ (workers ≤ 16) × (fields ≤ 512) × (512 ≤ length (now writer)) × (512 ≤ length (now version)) × (8192 ≤ length (now log)) ⌝ }
-    ensures { λ r. ⌜ verdictOf r ≡ endBy (staleFieldBy fields (now (log .entry)) (now (version .entry)) (now (writer .entry))) n 0 workers ⌝ }
-{
-    said_of(n, first_stale(writer, version, log, workers, fields))
-}
-
 // The events in their order, on tables that show that nothing has happened yet, and then the end.
 fn run(
     file: &[u8],
@@ -304,7 +211,7 @@ fn run(
             return r;
         }
     }
-    end(writer, version, log, workers, fields, counts.events)
+    stale::at_end(writer, version, log, workers, fields, counts.events)
 }
 
 // The tables before event 0: every worker is in stretch 1, and nothing has happened.

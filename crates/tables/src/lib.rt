@@ -1,7 +1,7 @@
 // The tables lent to the finders: the stretch and writer words that both keep, and what they say of open stretches.
 // Everything here goes by the words alone, whatever they are.
 ghost use mathlib.Core.Path.{_≡_};
-ghost use Prim.Native.Nat.{_+_, _<_, _≤_};
+ghost use Prim.Native.Nat.{_+_, _*_, _<_, _≤_};
 ghost use lib.ListN.{length, getD, set};
 ghost use Rattle.sorts.specs.Words.{joined};
 ghost use Rattle.tables.specs.Answers.{foundOf, verdictOf, judged, saidBy};
@@ -18,6 +18,14 @@ pub const WORKERS: usize = Worker::LIMIT as usize;
 pub const FIELDS: usize = Field::LIMIT as usize;
 
 pub const PAIRS: usize = FIELDS * WORKERS;
+
+// The word of worker w and field f stands here, in a table with a word for each field and worker.
+pub fn place(w: Worker, f: Field) -> usize
+    requires { ⌜ (w .0 < 16) × (f .0 < 512) ⌝ }
+    ensures { λ r. ⌜ r ≡ 16 * f .0 + w .0 ⌝ }
+{
+    (Worker::LIMIT * f.0 + w.0) as usize
+}
 
 // What a search for another worker finds.
 pub enum Other {

@@ -31,20 +31,14 @@ enum-told-2 c = search needs
 enum-known-d-3 : tie.Need-enum-known-d-3
 enum-known-d-3 c = search needs
 
-stale-field-requires : tie.Need-stale-field-requires
-stale-field-requires c κs = search (needs, crossing-worker)
-
-said-of-requires : tie.Need-said-of-requires
-said-of-requires c κs = search needs
+at-crossing-requires : tie.Need-at-crossing-requires
+at-crossing-requires c κs = search (needs, crossing-worker)
 
 enum-known-d-4 : tie.Need-enum-known-d-4
 enum-known-d-4 c = search needs
 
-stale-field-requires-2 : tie.Need-stale-field-requires-2
-stale-field-requires-2 c κs = search (needs, flag-worker)
-
-said-of-requires-2 : tie.Need-said-of-requires-2
-said-of-requires-2 c κs = search needs
+at-crossing-requires-2 : tie.Need-at-crossing-requires-2
+at-crossing-requires-2 c κs = search (needs, flag-worker)
 
 returns : tie.Need-returns
 returns c = search read-met
@@ -77,11 +71,9 @@ look-spec =
     enum-known-u-2
     enum-told-2
     enum-known-d-3
-    stale-field-requires
-    said-of-requires
+    at-crossing-requires
     enum-known-d-4
-    stale-field-requires-2
-    said-of-requires-2
+    at-crossing-requires-2
     returns
     returns-2
     returns-3

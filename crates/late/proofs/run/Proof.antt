@@ -61,8 +61,8 @@ loop-again c =
     let at-step = c .before .before .before .before .before .before .before .before .before .before in
     search (run-next, at-loop .before .before .before .before .before .before .before .pre, at-loop .loop .inv, at-step .step .ensures)
 
-end-requires : tie.Need-end-requires Inv-loop μ-loop
-end-requires c κs = search (needs, end-workers, end-fields, end-writer, end-version, end-log)
+at-end-requires : tie.Need-at-end-requires Inv-loop μ-loop
+at-end-requires c κs = search (needs, end-workers, end-fields, end-writer, end-version, end-log)
 
 same-length-5 : tie.Need-same-length-5 Inv-loop μ-loop
 same-length-5 c = search needs
@@ -100,7 +100,7 @@ run-spec =
     add-n
     loop-less
     loop-again
-    end-requires
+    at-end-requires
     same-length-5
     same-length-6
     same-length-7

@@ -8,8 +8,8 @@ use Rattle.sorts.specs.Words.{workerIn}
 use Rattle.events.specs.Words.{staleByWords}
 use Rattle.events.specs.Search.{Found, lowest, at, none}
 use Rattle.events.specs.Verdicts.{Verdict, accepted, reported}
-use Rattle.late.specs.declared.Stale.{Stale}
-use Rattle.late.specs.declared.Stale.the-variants.{At, Nowhere}
+use Rattle.stale.specs.declared.Stale.{Stale}
+use Rattle.stale.specs.declared.Stale.the-variants.{At, Nowhere}
 
 -- f is logged by w, and the version has risen by at least two, or by at least one with another worker as last writer
 unfoldable pub staleWords : List ℕ → List ℕ → List ℕ → ℕ → ℕ → Bool

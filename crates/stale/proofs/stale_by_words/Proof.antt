@@ -1,7 +1,7 @@
--- `late::stale_by_words` meets its contract: a law of `staleByWords` for each way out.
-use Rattle.late.proofs.Laws.{unlogged, risen-by-two, not-risen, risen-by-one}
-use Rattle.late.proofs.stale_by_words.Statement.{statement}
-use Rattle.late.proofs.stale_by_words.Tie as tie
+-- `stale::stale_by_words` meets its contract: a law of `staleByWords` for each way out.
+use Rattle.stale.proofs.Laws.{unlogged, risen-by-two, not-risen, risen-by-one}
+use Rattle.stale.proofs.stale_by_words.Statement.{statement}
+use Rattle.stale.proofs.stale_by_words.Tie as tie
 
 returns : tie.Need-returns
 returns c = search unlogged

@@ -1,11 +1,11 @@
--- `late::stale_field` meets its contract: before field f, what is left finds what the whole search finds.
+-- `stale::stale_field` meets its contract: before field f, what is left finds what the whole search finds.
 use mathlib.Core.Path.{_≡_}
 use Prim.Native.Nat.{_+_, _-_, _≤_}
 use borrow.Author.Needs.{needs}
-use Rattle.late.specs.Stale.{firstStale}
-use Rattle.late.proofs.Laws.{staleFrom, field-fresh, one-worker, one-worker-stale, one-worker-over}
-use Rattle.late.proofs.stale_field.Statement.{statement}
-use Rattle.late.proofs.stale_field.Tie as tie
+use Rattle.stale.specs.Stale.{firstStale}
+use Rattle.stale.proofs.Laws.{staleFrom, field-fresh, one-worker, one-worker-stale, one-worker-over}
+use Rattle.stale.proofs.stale_field.Statement.{statement}
+use Rattle.stale.proofs.stale_field.Tie as tie
 
 abbrev Inv-loop : tie.InvT-loop
 Inv-loop writer version log fields w f₀ f =

@@ -1,8 +1,8 @@
--- `late::stale_at` meets its contract: the words tested are those of the worker and the field.
+-- `stale::stale_at` meets its contract: the words tested are those of the worker and the field.
 use borrow.Author.Needs.{needs}
-use Rattle.late.proofs.Laws.{stale-is}
-use Rattle.late.proofs.stale_at.Statement.{statement}
-use Rattle.late.proofs.stale_at.Tie as tie
+use Rattle.stale.proofs.Laws.{stale-is}
+use Rattle.stale.proofs.stale_at.Statement.{statement}
+use Rattle.stale.proofs.stale_at.Tie as tie
 
 cast-i : tie.Need-cast-i
 cast-i c = search needs

@@ -1,8 +1,8 @@
--- `late::said_of` meets its contract: what is found is reported.
+-- `stale::said_of` meets its contract: what is found is reported.
 use borrow.Author.Needs.{needs}
-use Rattle.late.proofs.Laws.{said-at}
-use Rattle.late.proofs.said_of.Statement.{statement}
-use Rattle.late.proofs.said_of.Tie as tie
+use Rattle.stale.proofs.Laws.{said-at}
+use Rattle.stale.proofs.said_of.Statement.{statement}
+use Rattle.stale.proofs.said_of.Tie as tie
 
 enum-known-s : tie.Need-enum-known-s
 enum-known-s c = search needs

@@ -1,13 +1,13 @@
--- `late::first_stale` meets its contract: before worker w, and before its field f, what is left finds what the whole search finds.
+-- `stale::first_stale` meets its contract: before worker w, and before its field f, what is left finds what the whole search finds.
 use mathlib.Core.Path.{_≡_}
 use Prim.Native.Nat.{_-_, _<_, _≤_}
 use native.Mathlib.Nat.{sub-zero}
 use borrow.Author.Needs.{needs}
-use Rattle.late.specs.declared.Stale.the-variants.{Nowhere}
-use Rattle.late.specs.Stale.{firstStale}
-use Rattle.late.proofs.Laws.{staleFrom, search-worker, search-over, field-stale, field-fresh, fields-over}
-use Rattle.late.proofs.first_stale.Statement.{statement}
-use Rattle.late.proofs.first_stale.Tie as tie
+use Rattle.stale.specs.declared.Stale.the-variants.{Nowhere}
+use Rattle.stale.specs.Stale.{firstStale}
+use Rattle.stale.proofs.Laws.{staleFrom, search-worker, search-over, field-stale, field-fresh, fields-over}
+use Rattle.stale.proofs.first_stale.Statement.{statement}
+use Rattle.stale.proofs.first_stale.Tie as tie
 
 abbrev Inv-loop : tie.InvT-loop
 Inv-loop writer version log workers fields found₀ w f₀ found f =

@@ -1,0 +1,2 @@
+-- What must be believed of the search for stale reads.
+pub mod Stale
