@@ -1,5 +1,5 @@
 -- Laws of what an event does: its deed by its kind and field, and the events that close a stretch by their acts.
-use mathlib.Core.Path.{_≡_, refl}
+use mathlib.Core.Path.{_≡_, refl, _∙_}
 use mathlib.Core.Bool.{true, cond, _&&_}
 use mathlib.Core.List.{List, [], _∷_}
 use Prim.Native.Nat.{ℕ, _+_, _<_, _≤_}
@@ -8,15 +8,16 @@ use lib.Dec.{eqb, leb, T}
 use borrow.Author.Tests.{le-leb, lt-leb, eq-eqb, eqb-true}
 use Rattle.sorts.specs.declared.Worker.{Worker}
 use Rattle.sorts.specs.declared.Field.{Field}
+use Rattle.sorts.specs.Words.{joined}
 use Rattle.events.specs.declared.Event.{Event}
 use Rattle.events.specs.declared.Event.the-variants.{Read, Write, Crossing}
 use Rattle.events.specs.declared.Deed.{Deed}
 use Rattle.events.specs.declared.Deed.the-variants.{Reads, Writes, Crosses, Signals}
-use Rattle.events.specs.Acts.{Act, History, accessDoes, deedOf, actsOf, deedWorker, entered, reads, writes, crosses}
+use Rattle.events.specs.Acts.{Act, History, accessDoes, deedOf, actsOf, entered, reads, writes, crosses}
 use Rattle.events.specs.Stretches.{stretchOf}
 use Rattle.events.specs.Clashes.{Clash, Some, here, later}
 use Rattle.events.specs.Words.{writerWord, readersWord, versionWord, logWord}
-use Rattle.events.specs.Positions.{closes, rise}
+use Rattle.events.specs.Positions.{closes, eventWorker, rise}
 use Rattle.events.specs.Reports as said
 use Rattle.events.proofs.Tests.{bool, of-T, and-left, and-right}
 use Rattle.events.proofs.Stretches.{crossing-calm}
@@ -102,29 +103,25 @@ module _ (P u : ℕ) where
 
   -- it clears its worker's log words, and no other word of these tables changes
   module _ (h : History) (e : Event) (t : T (closes P u e)) (f : ℕ) where
-    pub writer-kept : writerWord (entered h (acts e)) f ≡ writerWord h f
-    unfolding entered writerWord
-    writer-kept = go (only-crosses e t)
+    kept : (word : History → ℕ) → ((g : History) → word (crosses u ∷ g) ≡ word g) → word (entered h (acts e)) ≡ word h
+    unfolding entered
+    kept word k = go (only-crosses e t)
       where
-        go : {a : List Act} → OnlyCrosses u a → writerWord (entered h a) f ≡ writerWord h f
-        go once = refl
-        go twice = refl
+        go : {a : List Act} → OnlyCrosses u a → word (entered h a) ≡ word h
+        go once = k h
+        go twice = k (crosses u ∷ h) ∙ k h
+
+    pub writer-kept : writerWord (entered h (acts e)) f ≡ writerWord h f
+    unfolding writerWord
+    writer-kept = kept (λ g. writerWord g f) (λ g. refl)
 
     pub version-kept : versionWord (entered h (acts e)) f ≡ versionWord h f
-    unfolding entered versionWord
-    version-kept = go (only-crosses e t)
-      where
-        go : {a : List Act} → OnlyCrosses u a → versionWord (entered h a) f ≡ versionWord h f
-        go once = refl
-        go twice = refl
+    unfolding versionWord
+    version-kept = kept (λ g. versionWord g f) (λ g. refl)
 
     pub readers-kept : (w : ℕ) → readersWord (entered h (acts e)) f w ≡ readersWord h f w
-    unfolding entered readersWord
-    readers-kept w = go (only-crosses e t)
-      where
-        go : {a : List Act} → OnlyCrosses u a → readersWord (entered h a) f w ≡ readersWord h f w
-        go once = refl
-        go twice = refl
+    unfolding readersWord
+    readers-kept w = kept (λ g. readersWord g f w) (λ g. refl)
 
     pub log-cleared : (w : ℕ) → logWord (entered h (acts e)) f w ≡ cond (eqb u w) 0 (logWord h f w)
     unfolding entered logWord
@@ -148,8 +145,18 @@ module _ (h : History) (w u : ℕ) where
   plain-stays = bool (eqb w u) (λ s. rw s (omega arith)) (λ s. rw s (omega arith))
 
 pub stretch-rises : (P : ℕ) (h : History) (e : Event) (u : ℕ)
-    → stretchOf (entered h (actsOf (deedOf P e))) u ≡ stretchOf h u + cond (eqb (deedWorker (deedOf P e)) u) (rise P e) 0
+    → stretchOf (entered h (actsOf (deedOf P e))) u ≡ stretchOf h u + cond (eqb (eventWorker e) u) (rise P e) 0
 unfolding entered stretchOf
 stretch-rises P h (Read w f) u = bool (leb P (f .0)) (λ t. rw t (flag-rises h (w .0) u)) (λ t. rw t (plain-stays h (w .0) u))
 stretch-rises P h (Write w f) u = bool (leb P (f .0)) (λ t. rw t (flag-rises h (w .0) u)) (λ t. rw t (plain-stays h (w .0) u))
 stretch-rises P h (Crossing w) u = lock-rises h (w .0) u
+
+-- what number an access of a plain field bears in the tables
+module _ (P : ℕ) (h : History) (w : Worker) (f : Field) (plain : f .0 < P) where
+  pub write-number : writerWord (entered h (actsOf (deedOf P (Write w f)))) (f .0) ≡ joined (stretchOf h (w .0)) (w .0)
+  unfolding entered writerWord
+  write-number = rw (lt-leb P (f .0) plain, eq-eqb (f .0) (f .0) refl)
+
+  pub read-number : readersWord (entered h (actsOf (deedOf P (Read w f)))) (f .0) (w .0) ≡ stretchOf h (w .0)
+  unfolding entered readersWord
+  read-number = rw (lt-leb P (f .0) plain, eq-eqb (f .0) (f .0) refl, eq-eqb (w .0) (w .0) refl)

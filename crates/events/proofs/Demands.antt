@@ -5,18 +5,21 @@ use mathlib.Core.List.{List, [], _∷_}
 use Prim.Native.Nat.{ℕ, _+_, _<_, _≤_}
 use lib.Dec.{eqb, T}
 use lib.ListN.{length, getD}
+use Rattle.sorts.specs.declared.Worker.{Worker}
+use Rattle.sorts.specs.declared.Field.{Field}
+use Rattle.sorts.specs.Words.{joined}
 use Rattle.events.specs.declared.Event.{Event}
 use Rattle.events.specs.declared.Event.the-variants.{Read, Write}
-use Rattle.events.specs.Acts.{Act, History, Recording, Within, deedOf, actsOf, deedWorker, recordingOf, entered, before, workerOf}
+use Rattle.events.specs.Acts.{Act, History, Recording, Within, deedOf, actsOf, recordingOf, entered, before, workerOf}
 use Rattle.events.specs.Stretches.{stretchOf, hasRead, hasWritten}
 use Rattle.events.specs.Words.{writerWord, readersWord, versionWord, logWord}
-use Rattle.events.specs.Positions.{closes, ClosesAt, rise, OpenSince}
+use Rattle.events.specs.Positions.{closes, ClosesAt, eventWorker, rise, OpenSince}
 use Rattle.events.specs.Clashes.{Clash, OnWritten, Some, SomeAt, FirstClash}
 use Rattle.events.specs.Verdicts.{Verdict, accepted, reported, earlyVerdict, lateVerdict}
 use Rattle.events.specs.Reports.{EventNames, Reports, ReportsSome, ReportsBy, Exactly, Writes, Crosses}
 use Rattle.events.proofs.Histories.{Sound, recording-sound, recording-length}
 use Rattle.events.proofs.Stretches.{own-clash}
-use Rattle.events.proofs.Deeds.{closes-crosses, crosses-closes, stretch-rises, closing-calm, writer-kept, readers-kept, version-kept, log-cleared}
+use Rattle.events.proofs.Deeds.{closes-crosses, crosses-closes, stretch-rises, write-number, read-number, closing-calm, writer-kept, readers-kept, version-kept, log-cleared}
 use Rattle.events.proofs.Positions.{positions, read-follows, written-follows, crossing-at}
 use Rattle.events.proofs.Walks.{not-both}
 use Rattle.events.proofs.Early.{Finds, accepts, finds, found-early, says-first, one-first}
@@ -38,8 +41,16 @@ closes-exactly P u e = (closes-crosses P u e, crosses-closes P u e)
 
 -- An event raises its own worker's stretch number, and nobody else's: an access of a flag by two.
 pub number-rises : (P : ℕ) (h : History) (e : Event) (u : ℕ)
-    → stretchOf (entered h (actsOf (deedOf P e))) u ≡ stretchOf h u + cond (eqb (deedWorker (deedOf P e)) u) (rise P e) 0
+    → stretchOf (entered h (actsOf (deedOf P e))) u ≡ stretchOf h u + cond (eqb (eventWorker e) u) (rise P e) 0
 number-rises = stretch-rises
+
+-- An access of a plain field bears the number of its worker's open stretch.
+module _ (P : ℕ) (h : History) (w : Worker) (f : Field) (plain : f .0 < P) where
+  pub write-bears : writerWord (entered h (actsOf (deedOf P (Write w f)))) (f .0) ≡ joined (stretchOf h (w .0)) (w .0)
+  write-bears = write-number P h w f plain
+
+  pub read-bears : readersWord (entered h (actsOf (deedOf P (Read w f)))) (f .0) (w .0) ≡ stretchOf h (w .0)
+  read-bears = read-number P h w f plain
 
 -- A worker never clashes with itself: what it did before changes nothing of what it meets.
 pub never-with-itself : (h : History) (a b : Act) → workerOf b ≡ workerOf a → Clash (a ∷ h) b → Clash h b

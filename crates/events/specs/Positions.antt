@@ -25,6 +25,12 @@ pub record ClosesAt (P : ℕ) (es : List Event) (n u : ℕ) : Type 0 where
   pub is : EventIs es n event
   pub closing : T (closes P u event)
 
+-- whose event it is
+abbrev pub eventWorker : Event → ℕ
+eventWorker (Read w f) = w .0
+eventWorker (Write w f) = w .0
+eventWorker (Crossing w) = w .0
+
 -- By how much an event raises its worker's stretch number: a crossing by one, an access of a flag by two, any other not at all.
 abbrev pub rise : ℕ → Event → ℕ
 rise P (Read w f) = cond (leb P (f .0)) 2 0
