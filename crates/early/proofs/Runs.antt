@@ -25,10 +25,10 @@ use Rattle.tables.specs.declared.Verdict.{Verdict}
 use Rattle.tables.specs.declared.Verdict.the-variants.{Accepted, Reported}
 use Rattle.tables.specs.Lent.{cells}
 use Rattle.tables.specs.Answers.{verdictOf}
-use Rattle.tables.specs.Finds.{deedAt, actsIn}
+use Rattle.tables.specs.Finds.{actsIn}
 use Rattle.tables.specs.Steps.{stretchAfter, writerAfter}
 use Rattle.tables.proofs.Lent.{shown-length}
-use Rattle.tables.proofs.Files.{file-sound-full, file-numbers, file-worker, file-does, file-stretch}
+use Rattle.tables.proofs.Files.{deedAt, file-sound-full, file-numbers, file-worker, file-does, file-stretch}
 use Rattle.tables.proofs.Shown.{shown-stretch}
 use Rattle.tables.proofs.Runs.{Sees, Reached, Course, reached-start, reached-next, reached-stop, reached-end, now-within, event-within, history-next, history-stop, history-end}
 use Rattle.early.specs.Steps.{readersAfter, Room, Stepped}

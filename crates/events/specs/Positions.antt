@@ -1,4 +1,4 @@
--- What an open stretch has done, said by the numbers of events and with no history.
+-- What an open stretch has done, which events close it and how far its number rises, said of events and with no history.
 use mathlib.Core.Path.{_≡_}
 use mathlib.Core.Bool.{Bool, cond, _&&_}
 use mathlib.Core.List.{List, [], _∷_}

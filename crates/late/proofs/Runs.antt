@@ -24,9 +24,9 @@ use Rattle.tables.specs.declared.Verdict.{Verdict}
 use Rattle.tables.specs.declared.Verdict.the-variants.{Accepted, Reported}
 use Rattle.tables.specs.Lent.{cells}
 use Rattle.tables.specs.Answers.{verdictOf}
-use Rattle.tables.specs.Finds.{deedAt, actsIn, shownBy}
+use Rattle.tables.specs.Finds.{actsIn, shownBy}
 use Rattle.tables.proofs.Lent.{shown-length}
-use Rattle.tables.proofs.Files.{file-sound, file-deed, file-does}
+use Rattle.tables.proofs.Files.{deedAt, file-sound, file-deed, file-does}
 use Rattle.tables.proofs.Runs.{Sees, Reached, Course, reached-start, reached-next, reached-stop, reached-end, now-within, event-within, history-next, history-stop, history-end}
 use Rattle.stale.specs.Stale.{staleFieldBy}
 use Rattle.late.specs.Steps.{Room, Stepped}

@@ -16,7 +16,11 @@ use Rattle.recording.specs.File.{Accepted, fieldLabel, eventAt, eventsIn}
 use Rattle.recording.proofs.Guarantee.{Guarantee}
 use Rattle.flags.specs.Flags.{flagsFrom, firstFlag}
 use Rattle.flags.proofs.Flags.{accepted-first-flag}
-use Rattle.tables.specs.Finds.{deedAt, actsIn}
+use Rattle.tables.specs.Finds.{actsIn}
+
+-- what event n of a file does
+abbrev pub deedAt : List ℕ → ℕ → Deed
+deedAt file n = deedOf (firstFlag file) (eventAt file n)
 
 module _ (file : List ℕ) (counts : Counts) (good : Guarantee file counts) where
   pub file-sound : Sound (counts .workers) (counts .fields) (actsIn file)

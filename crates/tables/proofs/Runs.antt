@@ -13,8 +13,8 @@ use Rattle.events.proofs.Walks.{Progress, progress-start, progress-next, progre
 use Rattle.recording.specs.declared.Counts.{Counts}
 use Rattle.recording.specs.File.{Accepted, eventCount}
 use Rattle.recording.proofs.Guarantee.{Guarantee}
-use Rattle.tables.specs.Finds.{deedAt, actsIn, shownBy}
-use Rattle.tables.proofs.Files.{file-length, file-event}
+use Rattle.tables.specs.Finds.{actsIn, shownBy}
+use Rattle.tables.proofs.Files.{deedAt, file-length, file-event}
 
 -- A look at events, with W workers and F fields: what it passes met no other worker's open stretch that had written its field, and what
 -- it reports bears the event's number.

@@ -1,20 +1,16 @@
 -- What both finders' statements are made of: the verdicts on a file, the answer to it, and each lent table after it.
 use mathlib.Core.List.{List, []}
 use Prim.Native.Nat.{ℕ}
-use Rattle.events.specs.declared.Deed.{Deed}
-use Rattle.events.specs.Acts.{History, Recording, deedOf, recordingOf, before}
+use Rattle.events.specs.Acts.{History, Recording, recordingOf, before}
 use Rattle.events.specs.Verdicts.{Verdict, accepted, reported, earlyVerdict, lateVerdict}
 use Rattle.recording.specs.declared.Fault.{Fault}
 use Rattle.recording.specs.declared.Fault.the-variants.{Fine, Refused}
-use Rattle.recording.specs.File.{eventAt, eventsIn, workerCount, fieldCount, eventCount}
+use Rattle.recording.specs.File.{eventsIn, workerCount, fieldCount, eventCount}
 use Rattle.flags.specs.Flags.{firstFlag}
 use Rattle.tables.specs.Lent.{showing}
 use Rattle.tables.specs.Answers.{Said, refused, judged}
 
--- The recording in a file: what event n does, the acts of each event, and the two verdicts. The fields from the first flag on are flags.
-abbrev pub deedAt : List ℕ → ℕ → Deed
-deedAt file n = deedOf (firstFlag file) (eventAt file n)
-
+-- The recording in a file: the acts of each event, and the two verdicts. The fields from the first flag on are flags.
 abbrev pub actsIn : List ℕ → Recording
 actsIn file = recordingOf (firstFlag file) (eventsIn file)
 
