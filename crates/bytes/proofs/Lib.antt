@@ -1,2 +1,3 @@
 -- Laws of rows of bytes.
 pub mod Buffer
+pub mod Characters
