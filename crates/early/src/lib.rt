@@ -91,8 +91,8 @@ fn enter(stretch: &mut [u32], writer: &mut [u32], readers: &mut [u32], d: Deed)
     match d {
         Deed::Reads(w, f) => enter_read(stretch, readers, w, f),
         Deed::Writes(w, f) => tables::enter_write(stretch, writer, w, f),
-        Deed::Crosses(w) => tables::enter_crossing(stretch, w),
-        Deed::Signals(w) => tables::enter_flag(stretch, w),
+        Deed::Crosses(w) => tables::close_stretch(stretch, w, 1),
+        Deed::Signals(w) => tables::close_stretch(stretch, w, 2),
     }
 }
 

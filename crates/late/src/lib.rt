@@ -129,21 +129,12 @@ fn clear_log(log: &mut [u32], fields: u32, w: Worker)
     }
 }
 
-// Worker w's crossing.
-fn enter_crossing(stretch: &mut [u32], log: &mut [u32], fields: u32, w: Worker)
-    requires { ⌜ (w .0 < 16) × (fields ≤ 512) × (16 ≤ length (now stretch)) × (8192 ≤ length (now log)) × (getD (now stretch) (w .0) 0 < 268435456) ⌝ }
-    ensures { λ _. ⌜ (now (stretch .exit) ≡ set (now (stretch .entry)) (w .0) (getD (now (stretch .entry)) (w .0) 0 + 1)) × (now (log .exit) ≡ cleared (now (log .entry)) (w .0) fields) ⌝ }
+// Worker w's stretch closes: its number rises, and its log words become 0.
+fn close(stretch: &mut [u32], log: &mut [u32], fields: u32, w: Worker, rise: u32)
+    requires { ⌜ (w .0 < 16) × (fields ≤ 512) × (16 ≤ length (now stretch)) × (8192 ≤ length (now log)) × (getD (now stretch) (w .0) 0 < 268435456) × (rise ≤ 2) ⌝ }
+    ensures { λ _. ⌜ (now (stretch .exit) ≡ set (now (stretch .entry)) (w .0) (getD (now (stretch .entry)) (w .0) 0 + rise)) × (now (log .exit) ≡ cleared (now (log .entry)) (w .0) fields) ⌝ }
 {
-    tables::enter_crossing(stretch, w);
-    clear_log(log, fields, w);
-}
-
-// Worker w's access of a flag.
-fn enter_flag(stretch: &mut [u32], log: &mut [u32], fields: u32, w: Worker)
-    requires { ⌜ (w .0 < 16) × (fields ≤ 512) × (16 ≤ length (now stretch)) × (8192 ≤ length (now log)) × (getD (now stretch) (w .0) 0 < 268435456) ⌝ }
-    ensures { λ _. ⌜ (now (stretch .exit) ≡ set (now (stretch .entry)) (w .0) (getD (now (stretch .entry)) (w .0) 0 + 2)) × (now (log .exit) ≡ cleared (now (log .entry)) (w .0) fields) ⌝ }
-{
-    tables::enter_flag(stretch, w);
+    tables::close_stretch(stretch, w, rise);
     clear_log(log, fields, w);
 }
 
@@ -162,8 +153,8 @@ fn enter(
     match d {
         Deed::Reads(w, f) => enter_read(stretch, writer, version, log, w, f),
         Deed::Writes(w, f) => enter_write(stretch, writer, version, w, f),
-        Deed::Crosses(w) => enter_crossing(stretch, log, fields, w),
-        Deed::Signals(w) => enter_flag(stretch, log, fields, w),
+        Deed::Crosses(w) => close(stretch, log, fields, w, 1),
+        Deed::Signals(w) => close(stretch, log, fields, w, 2),
     }
 }
 

@@ -107,22 +107,13 @@ pub fn enter_write(stretch: &[u32], writer: &mut [u32], w: Worker, f: Field)
     writer[j] = epoch.join();
 }
 
-// Worker w's crossing.
-pub fn enter_crossing(stretch: &mut [u32], w: Worker)
-    requires { ⌜ (w .0 < 16) × (16 ≤ length (now stretch)) × (getD (now stretch) (w .0) 0 < 268435456) ⌝ }
-    ensures { λ _. ⌜ now (stretch .exit) ≡ set (now (stretch .entry)) (w .0) (getD (now (stretch .entry)) (w .0) 0 + 1) ⌝ }
+// Worker w's stretch closes, and its number rises: by 1 at a lock, by 2 at a flag.
+pub fn close_stretch(stretch: &mut [u32], w: Worker, rise: u32)
+    requires { ⌜ (w .0 < 16) × (16 ≤ length (now stretch)) × (getD (now stretch) (w .0) 0 < 268435456) × (rise ≤ 2) ⌝ }
+    ensures { λ _. ⌜ now (stretch .exit) ≡ set (now (stretch .entry)) (w .0) (getD (now (stretch .entry)) (w .0) 0 + rise) ⌝ }
 {
     let i = w.0 as usize;
-    stretch[i] += 1;
-}
-
-// Worker w's access of a flag: two crossings.
-pub fn enter_flag(stretch: &mut [u32], w: Worker)
-    requires { ⌜ (w .0 < 16) × (16 ≤ length (now stretch)) × (getD (now stretch) (w .0) 0 < 268435456) ⌝ }
-    ensures { λ _. ⌜ now (stretch .exit) ≡ set (now (stretch .entry)) (w .0) (getD (now (stretch .entry)) (w .0) 0 + 2) ⌝ }
-{
-    let i = w.0 as usize;
-    stretch[i] += 2;
+    stretch[i] += rise;
 }
 
 // The first n words become v.
