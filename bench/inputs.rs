@@ -1,5 +1,6 @@
-//! The recordings that the finders are timed on: 16,000 events, mostly reads, none of them a clash. Every field is plain
-//! data, with a label below 32,768: a flag access closes a stretch, so an input with flags is timed for other work.
+//! The recordings that the finders are timed on: 16,000 events, mostly reads or mostly writes, none of them a clash. Every
+//! field is plain data, with a label below 32,768: a flag access closes a stretch, so an input with flags is timed for
+//! other work.
 
 use reference::file::{self, Kind, Recording};
 use reference::generate::{self, Care, Shape};
@@ -11,29 +12,34 @@ use crate::proved;
 const SEED: u64 = 16_000;
 
 pub struct Input {
-    pub name: &'static str,
+    pub name: String,
     pub recording: Recording,
     pub file: Vec<u8>,
 }
 
-/// Two and sixteen workers, each with few and with many crossings.
+/// Two and sixteen workers, mostly reads and mostly writes, each with few and with many crossings.
 pub fn all() -> Vec<Input> {
-    vec![
-        input("2 workers, few crossings", 2, 2),
-        input("2 workers, many crossings", 2, 100),
-        input("16 workers, few crossings", 16, 2),
-        input("16 workers, many crossings", 16, 100),
-    ]
+    let mut inputs = Vec::new();
+    for (accesses, writes) in [("reads", 100), ("writes", 900)] {
+        for workers in [2, 16] {
+            for (often, crossings) in [("few", 2), ("many", 100)] {
+                let name = format!("mostly {accesses}, {workers} workers, {often} crossings");
+                inputs.push(input(name, workers, crossings, writes));
+            }
+        }
+    }
+    inputs
 }
 
-fn input(name: &'static str, workers: usize, crossings: usize) -> Input {
+/// Crossings are of a thousand events, writes of a thousand accesses.
+fn input(name: String, workers: usize, crossings: usize, writes: usize) -> Input {
     let shape = Shape {
         workers,
         fields: file::MOST_FIELDS,
         flags: 0,
         events: file::MOST_EVENTS,
         crossings,
-        writes: 100,
+        writes,
         flag_accesses: 0,
         hot_fields: 8,
         runs: 50,

@@ -1,8 +1,8 @@
 -- What each way through the code's functions answers, over plain numbers, lists and deeds.
 use mathlib.Core.Path.{_≡_, _∙_}
-use mathlib.Core.Bool.{Bool, false}
+use mathlib.Core.Bool.{Bool, false, and-false}
 use mathlib.Core.List.{List}
-use Prim.Native.Nat.{ℕ, _+_, _*_, _<_}
+use Prim.Native.Nat.{ℕ, _+_, _*_, _<_, _≤_, min}
 use native.Mathlib.Omega.{arith}
 use lib.ListN.{getD, set}
 use borrow.Author.Tests.{eq-eqb, ne-eqb}
@@ -12,15 +12,16 @@ use Rattle.sorts.specs.declared.Field.{Field}
 use Rattle.events.specs.declared.Deed.{Deed}
 use Rattle.events.specs.declared.Deed.the-variants.{Reads, Writes, Crosses, Signals}
 use Rattle.events.specs.Acts.{actsOf, DeedWithin, deedWorker}
-use Rattle.events.specs.Search.{Found}
+use Rattle.events.specs.Search.{Found, lowest}
 use Rattle.events.specs.Verdicts.{accepted, reported, firstOf, earlyBy}
+use Rattle.events.proofs.Search.{lowest-shorter}
 use Rattle.tables.specs.declared.Other.{Other}
 use Rattle.tables.specs.declared.Other.the-variants.{Worker as Other-worker, Nobody}
 use Rattle.tables.specs.declared.Verdict.{Verdict}
 use Rattle.tables.specs.declared.Verdict.the-variants.{Accepted, Reported}
 use Rattle.tables.specs.Answers.{foundOf, verdictOf}
 use Rattle.tables.specs.Steps.{isOpen, stretchWith, writerWith, stretchAfter, writerAfter}
-use Rattle.tables.proofs.Laws.{stretch-flag}
+use Rattle.tables.proofs.Laws.{open-over, stretch-flag}
 use Rattle.early.specs.Steps.{readerOpen, meets, readersWith, readersAfter, Sized, Entered, Stepped}
 
 module _ (W : ℕ) (S Rd : List ℕ) (w base u : ℕ) where
@@ -31,6 +32,17 @@ module _ (W : ℕ) (S Rd : List ℕ) (w base u : ℕ) where
   pub reader-is : (b : Bool) → (u ≡ w → ⊥) → b ≡ isOpen W S u (getD Rd (base + u) 0) → b ≡ readerOpen W S Rd w base u
   unfolding readerOpen
   reader-is b q o = rw (ne-eqb u w q, o)
+
+  -- a worker past the count is never open, whatever the words
+  pub reader-past : W ≤ u → readerOpen W S Rd w base u ≡ false
+  unfolding readerOpen
+  reader-past l = simp (← open-over W S u (getD Rd (base + u) 0) l, and-false)
+
+-- So the search among the workers that exist finds what the search among sixteen finds, whatever the words.
+pub readers-existing : (W : ℕ) (S Rd : List ℕ) (w base k : ℕ) → k ≡ min W 16
+    → lowest (readerOpen W S Rd w base) 0 k ≡ lowest (readerOpen W S Rd w base) 0 16
+readers-existing W S Rd w base k e =
+    lowest-shorter (readerOpen W S Rd w base) 0 k 16 (omega arith) (λ u a b. reader-past W S Rd w base u (omega arith))
 
 -- a deed's numbers, once the code has found its kind
 module _ (d : Deed) (w : Worker) (f : Field) (k j : ℕ) where

@@ -1,6 +1,6 @@
 // The early finder (FastRCD): at each access it looks whether another worker's open stretch has touched the field.
 ghost use mathlib.Core.Path.{_≡_};
-ghost use Prim.Native.Nat.{_+_, _*_, _<_, _≤_};
+ghost use Prim.Native.Nat.{_+_, _*_, _<_, _≤_, min};
 ghost use mathlib.Core.List.{[]};
 ghost use lib.ListN.{length, getD, set};
 ghost use Rattle.events.specs.Acts.{DeedWithin};
@@ -38,13 +38,24 @@ fn reader_open(
     tables::is_open(stretch, workers, u, Stretch(readers[i]))
 }
 
-// The lowest other worker whose open stretch has read field f.
+// So many workers are visited: those that exist. The tables have words for sixteen.
+fn existing(workers: u32) -> u32
+    ensures { λ r. ⌜ r ≡ min workers 16 ⌝ }
+{
+    if workers < Worker::LIMIT {
+        workers
+    } else {
+        Worker::LIMIT
+    }
+}
+
+// The lowest other worker whose open stretch has read field f. A worker past the count has none, whatever its words.
 fn other_reader(stretch: &[u32], readers: &[u32], workers: u32, w: Worker, f: Field) -> Other
     requires { ⌜ (f .0 < 512) × (16 ≤ length (now stretch)) × (8192 ≤ length (now readers)) ⌝ }
     ensures { λ r. ⌜ foundOf r ≡ readerBy workers (now (stretch .entry)) (now (readers .entry)) (w .0) (f .0) ⌝ }
 {
     let base = tables::WORKERS * (f.0 as usize);
-    for u in 0..Worker::LIMIT {
+    for u in 0..existing(workers) {
         if reader_open(stretch, readers, workers, w, base, Worker(u)) {
             return Other::Worker(Worker(u));
         }

@@ -1,19 +1,21 @@
--- `early::other_reader` meets its contract: what is left of the search answers as the whole does.
+-- `early::other_reader` meets its contract: what is left of the search answers as the whole does, and the whole as one of sixteen workers.
 use Prim.Native.Nat.{_-_, _≤_}
 use mathlib.Core.Path.{_≡_}
+use native.Mathlib.Nat.{sub-zero}
 use borrow.Author.Needs.{needs}
 use Rattle.events.specs.Search.{lowest}
 use Rattle.events.proofs.Search.{search-hit, search-next, search-end}
 use Rattle.early.specs.Steps.{readerOpen}
+use Rattle.early.proofs.Laws.{readers-existing}
 use Rattle.early.proofs.other_reader.Statement.{statement}
 use Rattle.early.proofs.other_reader.Tie as tie
 
 abbrev Inv-loop : tie.InvT-loop
-Inv-loop stretch readers workers w base u₀ u =
-    (u ≤ 16) × (lowest (readerOpen workers stretch readers (w .0) base) u (16 - u) ≡ lowest (readerOpen workers stretch readers (w .0) base) 0 16)
+Inv-loop stretch readers workers w base u₀ u-end u =
+    (u ≤ u-end) × (lowest (readerOpen workers stretch readers (w .0) base) u (u-end - u) ≡ lowest (readerOpen workers stretch readers (w .0) base) 0 16)
 
 abbrev μ-loop : tie.MeasureT-loop
-μ-loop stretch readers workers w base u₀ u = 16 - u
+μ-loop stretch readers workers w base u₀ u-end u = u-end - u
 
 cast-base : tie.Need-cast-base Inv-loop μ-loop
 cast-base c = search needs
@@ -21,8 +23,11 @@ cast-base c = search needs
 mul-base : tie.Need-mul-base Inv-loop μ-loop
 mul-base c = search needs
 
+existing-requires : tie.Need-existing-requires Inv-loop μ-loop
+existing-requires c κs = search needs
+
 loop-holds : tie.Need-loop-holds Inv-loop μ-loop
-loop-holds c = search needs
+loop-holds c = (search needs, search (sub-zero, readers-existing))
 
 reader-open-requires : tie.Need-reader-open-requires Inv-loop μ-loop
 reader-open-requires c κs = search needs
@@ -50,6 +55,7 @@ other-reader-spec =
     μ-loop
     cast-base
     mul-base
+    existing-requires
     loop-holds
     reader-open-requires
     returns
