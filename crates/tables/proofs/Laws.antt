@@ -13,6 +13,7 @@ use Rattle.sorts.specs.declared.Worker.{Worker}
 use Rattle.sorts.specs.declared.Field.{Field}
 use Rattle.events.specs.Acts.{crosses}
 use Rattle.events.specs.Search.{at, none}
+use Rattle.events.proofs.Tests.{same}
 use Rattle.events.specs.Verdicts as papers
 use Rattle.tables.specs.declared.Verdict.{Verdict}
 use Rattle.tables.specs.declared.Verdict.the-variants.{Accepted, Reported}
@@ -21,13 +22,14 @@ use Rattle.tables.specs.Answers.{verdictOf, judged, saidBy}
 use Rattle.tables.specs.Steps.{isOpen, writerNamed, stretchWith, stretchAfter}
 
 module _ (W : ℕ) (S : List ℕ) (w n : ℕ) where
-  pub open-same : w < W → (n ≡ 0 → ⊥) → eqb n (getD S w 0) ≡ isOpen W S w n
+  -- a stretch of number 0 is never open, so it makes no difference which of two equal numbers is tested for 0
+  pub open-zero : getD S w 0 ≡ 0 → false ≡ isOpen W S w n
   unfolding isOpen
-  open-same a b = simp (lt-ltb w W a, lt-ltb 0 n (omega arith))
+  open-zero z = same n (getD S w 0) (λ q _. simp (le-ltb 0 n (omega arith), and-false)) (λ _ t. simp (t, and-false))
 
-  pub open-zero : n ≡ 0 → false ≡ isOpen W S w n
+  pub open-same : w < W → (getD S w 0 ≡ 0 → ⊥) → eqb n (getD S w 0) ≡ isOpen W S w n
   unfolding isOpen
-  open-zero a = simp (le-ltb 0 n (omega arith), and-false)
+  open-same a z = same n (getD S w 0) (λ q _. simp (lt-ltb w W a, lt-ltb 0 n (omega arith))) (λ _ t. simp (t, and-false))
 
   pub open-over : W ≤ w → false ≡ isOpen W S w n
   unfolding isOpen

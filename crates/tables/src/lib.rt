@@ -59,7 +59,7 @@ pub fn answer_to(v: Verdict) -> Answer
     }
 }
 
-// Is stretch n of worker w open?
+// Is stretch n of worker w open? Stretch 0 never is. The worker's word is tested for 0 and not n, since it hardly ever is 0 and n often.
 pub fn is_open(stretch: &[u32], workers: u32, w: Worker, n: Stretch) -> bool
     requires { ⌜ (w .0 < 16) × (16 ≤ length (now stretch)) ⌝ }
     ensures { λ r. ⌜ r ≡ isOpen workers (now (stretch .entry)) (w .0) (n .0) ⌝ }
@@ -67,11 +67,12 @@ pub fn is_open(stretch: &[u32], workers: u32, w: Worker, n: Stretch) -> bool
     if workers <= w.0 {
         return false;
     }
-    if n.0 == 0 {
+    let i = w.0 as usize;
+    let open = stretch[i];
+    if open == 0 {
         return false;
     }
-    let i = w.0 as usize;
-    n.0 == stretch[i]
+    n.0 == open
 }
 
 // The last writer of field f, if it is another worker than w and its stretch is open.
