@@ -1,10 +1,9 @@
-//! The recordings that the finders are timed on: 16,000 events, mostly reads or mostly writes, none of them a clash. Every
-//! field is plain data, with a label below 32,768: a flag access closes a stretch, so an input with flags is timed for
-//! other work.
+//! The recordings that the finders are timed on: 16,000 events, mostly reads or mostly writes, none of them a clash.
 
 use reference::file::{self, Kind, Recording};
 use reference::generate::{self, Care, Shape};
 use reference::random::Random;
+use reference::verdict::FIRST_FLAG_LABEL;
 use reference::writing::{Rows, Written};
 
 use crate::proved;
@@ -17,23 +16,26 @@ pub struct Input {
     pub file: Vec<u8>,
 }
 
-/// Two and sixteen workers, mostly reads and mostly writes, each with few and with many crossings.
+/// Two and sixteen workers, mostly reads and mostly writes: each with few crossings, with many, and with flags.
 pub fn all() -> Vec<Input> {
     let mut inputs = Vec::new();
     for (accesses, writes) in [("reads", 100), ("writes", 900)] {
         for workers in [2, 16] {
-            for (often, crossings) in [("few", 2), ("many", 100)] {
-                let name = format!("mostly {accesses}, {workers} workers, {often} crossings");
-                inputs.push(input(name, workers, crossings, writes));
-            }
+            let mut add = |kind, shape| {
+                let name = format!("mostly {accesses}, {workers} workers, {kind}");
+                inputs.push(input(name, &shape));
+            };
+            add("few crossings", with_crossings(workers, writes, 2));
+            add("many crossings", with_crossings(workers, writes, 100));
+            add("flags", with_flags(workers, writes));
         }
     }
     inputs
 }
 
-/// Crossings are of a thousand events, writes of a thousand accesses.
-fn input(name: String, workers: usize, crossings: usize, writes: usize) -> Input {
-    let shape = Shape {
+/// Every field is plain data. Crossings are of a thousand events, writes of a thousand accesses.
+fn with_crossings(workers: usize, writes: usize, crossings: usize) -> Shape {
+    Shape {
         workers,
         fields: file::MOST_FIELDS,
         flags: 0,
@@ -45,8 +47,20 @@ fn input(name: String, workers: usize, crossings: usize, writes: usize) -> Input
         runs: 50,
         care: Care::Careful,
         care_ends: file::MOST_EVENTS,
-    };
-    let recording = generate::recording(&shape, &mut Random::new(SEED));
+    }
+}
+
+/// Half of the fields are flags, and a tenth of the accesses are of one: they close stretches in place of crossings.
+fn with_flags(workers: usize, writes: usize) -> Shape {
+    Shape {
+        flags: file::MOST_FIELDS / 2,
+        flag_accesses: 100,
+        ..with_crossings(workers, writes, 2)
+    }
+}
+
+fn input(name: String, shape: &Shape) -> Input {
+    let recording = generate::recording(shape, &mut Random::new(SEED));
     let file = written(&Rows::of(&recording));
     Input {
         name,
@@ -64,7 +78,13 @@ fn written(rows: &Rows) -> Vec<u8> {
 }
 
 impl Input {
-    /// How many events of each kind there are.
+    /// How many of the fields are flags: the last ones, since labels rise.
+    pub fn flags(&self) -> usize {
+        let labels = self.recording.fields.iter();
+        labels.filter(|&&label| label >= FIRST_FLAG_LABEL).count()
+    }
+
+    /// How many fields and flags there are, and events of each kind.
     pub fn describe(&self) -> String {
         let count = |kind| {
             self.recording
@@ -76,9 +96,10 @@ impl Input {
         let (reads, writes, crossings) =
             (count(Kind::Read), count(Kind::Write), count(Kind::Crossing));
         format!(
-            "{}: {} fields, {reads} reads, {writes} writes, {crossings} crossings",
+            "{}: {} fields, {} of them flags, {reads} reads, {writes} writes, {crossings} crossings",
             self.name,
-            self.recording.fields.len()
+            self.recording.fields.len(),
+            self.flags()
         )
     }
 }

@@ -105,7 +105,10 @@ fn time_all(repetitions: usize) -> Result<(), String> {
         for mut pair in pairs() {
             let Times { proved, baseline } = time(&mut pair, &input, repetitions)?;
             let ratio = proved / baseline;
-            println!("  {:<6} proved {proved:>7.2}   Rust baseline {baseline:>7.2}   ratio {ratio:.2}", pair.name);
+            println!(
+                "  {:<6} proved {proved:>7.2}   Rust baseline {baseline:>7.2}   ratio {ratio:.2}",
+                pair.name
+            );
         }
     }
     Ok(())
@@ -155,7 +158,6 @@ mod tests {
     use super::*;
     use reference::finders::Answer as Expected;
     use reference::stream::{self, Plan};
-    use reference::verdict::FIRST_FLAG_LABEL;
     use reference::{file, writing, writings};
 
     fn of_reference(answer: Expected) -> Answer {
@@ -240,10 +242,14 @@ mod tests {
     }
 
     #[test]
-    fn no_input_has_a_flag() {
+    fn inputs_have_flags_as_named() {
         for input in inputs::all() {
-            let mut labels = input.recording.fields.iter();
-            assert!(labels.all(|&label| label < FIRST_FLAG_LABEL));
+            let flags = if input.name.ends_with("flags") {
+                256
+            } else {
+                0
+            };
+            assert_eq!(input.flags(), flags, "{}", input.name);
         }
     }
 
