@@ -88,7 +88,7 @@ module _ (W F P : ℕ) (few : W ≤ 16) (es : List Event) (within : Within W F e
   all = recordingOf P es
 
   sound : Sound W F all
-  sound = recording-sound P W F es within
+  sound = recording-sound P W F F (λ f _ l. l) es within
 
   found : Finds W F few all sound (earlyVerdict P es)
   found = found-early W F few all sound

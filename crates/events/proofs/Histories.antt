@@ -5,11 +5,14 @@ use Prim.Native.Nat.{ℕ, zero, suc, _<_, _≤_}
 use native.Mathlib.Omega.{arith}
 use lib.Dec.{leb}
 use lib.ListN.{length, getD, drop}
+use borrow.Author.Tests.{leb-false}
+use Rattle.sorts.specs.declared.Worker.{Worker}
+use Rattle.sorts.specs.declared.Field.{Field}
 use Rattle.events.specs.declared.Event.{Event}
 use Rattle.events.specs.declared.Event.the-variants.{Read, Write, Crossing}
 use Rattle.events.specs.declared.Deed.{Deed}
 use Rattle.events.specs.declared.Deed.the-variants.{Reads, Writes, Crosses, Signals}
-use Rattle.events.specs.Acts.{Act, Recording, History, deedOf, actsOf, recordingOf, entered, before, workerOf, Within, EventWithin, DeedWithin, reads, writes, crosses}
+use Rattle.events.specs.Acts.{Act, Recording, History, accessDoes, deedOf, actsOf, recordingOf, entered, before, workerOf, Within, EventWithin, DeedWithin, reads, writes, crosses}
 use Rattle.events.specs.Clashes.{Some, SomeAt, here, later}
 use Rattle.events.proofs.Tests.{bool}
 
@@ -38,11 +41,24 @@ abbrev pub Sound : ℕ → ℕ → Recording → Type 0
 Sound W F [] = Unit {0}
 Sound W F (e ∷ es) = EventActs W F e × Sound W F es
 
--- what an event does is within the counts too
-pub deed-within : (W F P : ℕ) (e : Event) → EventWithin W F e → DeedWithin W F (deedOf P e)
-deed-within W F P (Read w f) i = bool (leb P (f .0)) (λ t. rw t (i .0)) (λ t. rw t i)
-deed-within W F P (Write w f) i = bool (leb P (f .0)) (λ t. rw t (i .0)) (λ t. rw t i)
-deed-within W F P (Crossing w) i = i
+-- What an event does is within the counts too, and touches plain fields alone: it is within G fields, if all fields below P and F are.
+module _ (W F G P : ℕ) (low : (f : ℕ) → f < P → f < F → f < G) where
+  access-within : (w : Worker) (f : Field) → (w .0 < W) × (f .0 < F) → (d : Deed) → ((w .0 < W) × (f .0 < G) → DeedWithin W G d)
+      → DeedWithin W G (accessDoes P w f d)
+  access-within w f i d k =
+      bool (leb P (f .0)) (λ t. rw t (i .0)) (λ t. rw t (k (i .0, low (f .0) (leb-false P (f .0) t) (i .1))))
+
+  pub deed-within : (e : Event) → EventWithin W F e → DeedWithin W G (deedOf P e)
+  deed-within (Read w f) i = access-within w f i (Reads w f) (λ k. k)
+  deed-within (Write w f) i = access-within w f i (Writes w f) (λ k. k)
+  deed-within (Crossing w) i = i
+
+-- more workers do no harm
+pub deed-wider : (W G F : ℕ) → W ≤ G → (d : Deed) → DeedWithin W F d → DeedWithin G F d
+deed-wider W G F l (Reads w f) i = (omega arith, i .1)
+deed-wider W G F l (Writes w f) i = (omega arith, i .1)
+deed-wider W G F l (Crosses w) i = omega arith
+deed-wider W G F l (Signals w) i = omega arith
 
 acts-sound : (W F : ℕ) (d : Deed) → DeedWithin W F d → EventActs W F (actsOf d)
 acts-sound W F (Reads w f) i = record { worker = w .0; own = (refl, tt); inside = (i, tt) }
@@ -50,22 +66,13 @@ acts-sound W F (Writes w f) i = record { worker = w .0; own = (refl, tt); inside
 acts-sound W F (Crosses w) i = record { worker = w .0; own = (refl, tt); inside = (i, tt) }
 acts-sound W F (Signals w) i = record { worker = w .0; own = (refl, (refl, tt)); inside = (i, (i, tt)) }
 
--- more workers or fields do no harm
-pub within-wider : (W F G : ℕ) (es : List Event) → F ≤ G → Within W F es → Within W G es
-within-wider W F G [] l i = tt
-within-wider W F G (e ∷ es) l i = (one e (i .0), within-wider W F G es l (i .1))
-  where
-    one : (e : Event) → EventWithin W F e → EventWithin W G e
-    one (Read w f) j = (j .0, omega arith)
-    one (Write w f) j = (j .0, omega arith)
-    one (Crossing w) j = j
-
 -- with P plain fields
 module _ (P : ℕ) where
-  pub recording-sound : (W F : ℕ) (es : List Event) → Within W F es → Sound W F (recordingOf P es)
+  pub recording-sound : (W F G : ℕ) → ((f : ℕ) → f < P → f < F → f < G) → (es : List Event) → Within W F es → Sound W G (recordingOf P es)
   unfolding recordingOf
-  recording-sound W F [] i = tt
-  recording-sound W F (e ∷ es) i = (acts-sound W F (deedOf P e) (deed-within W F P e (i .0)), recording-sound W F es (i .1))
+  recording-sound W F G low [] i = tt
+  recording-sound W F G low (e ∷ es) i =
+      (acts-sound W G (deedOf P e) (deed-within W F G P low e (i .0)), recording-sound W F G low es (i .1))
 
   pub recording-length : (es : List Event) → length (recordingOf P es) ≡ length es
   unfolding recordingOf

@@ -9,6 +9,7 @@ pub mod Positions
 pub mod Walks
 pub mod Early
 pub mod Late
+pub mod Plain
 pub mod Words
 pub mod Unused
 pub mod Stale

@@ -83,6 +83,11 @@ pub flags-in-file : (file : List ℕ) → WellFormed file → (f : ℕ) → f < 
 unfolding firstFlag
 flags-in-file file g = flags-from-there (fieldLabel file) (fieldCount file) (g .fields-rise)
 
+-- It is at most the field count.
+pub plain-in-file : (file : List ℕ) → firstFlag file ≤ fieldCount file
+unfolding firstFlag
+plain-in-file file = first-flag-low (fieldLabel file) (fieldCount file)
+
 -- With the field count that the check gave, the number is that of the file's first flag.
 pub accepted-first-flag : (file : List ℕ) (counts : Counts) (r : ℕ) → Accepted file counts → r ≡ flagsFrom (fieldLabel file) (counts .fields) → r ≡ firstFlag file
 unfolding firstFlag

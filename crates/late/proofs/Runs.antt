@@ -11,20 +11,22 @@ use Rattle.events.specs.declared.Deed.{Deed}
 use Rattle.events.specs.Acts.{Act, History, deedOf, actsOf, before}
 use Rattle.events.specs.Clashes.{OnWritten, Some}
 use Rattle.events.specs.Words.{writerWord, versionWord, logWord}
-use Rattle.events.specs.Verdicts.{accepted, reported, firstOf, staleField, endBy, lateLook}
+use Rattle.events.specs.Verdicts.{accepted, reported, firstOf, staleField, endBy, lateLook, lateVerdict}
 use Rattle.events.specs.Verdicts as papers
 use Rattle.events.proofs.Histories.{ActsWithin}
 use Rattle.events.proofs.Walks.{not-both}
+use Rattle.events.proofs.Plain.{late-plain}
 use Rattle.events.proofs.Late.{LateLooked, passed, stopped, late-looked, EndLooked, all-passed, one-stopped, end-looked}
 use Rattle.recording.specs.declared.Counts.{Counts}
 use Rattle.recording.specs.File.{fieldLabel, eventAt, eventsIn}
 use Rattle.recording.proofs.Guarantee.{Guarantee, guarantee}
 use Rattle.flags.specs.Flags.{flagsFrom, firstFlag}
+use Rattle.flags.proofs.Flags.{plain-in-file, accepted-first-flag}
 use Rattle.tables.specs.declared.Verdict.{Verdict}
 use Rattle.tables.specs.declared.Verdict.the-variants.{Accepted, Reported}
 use Rattle.tables.specs.Lent.{cells}
 use Rattle.tables.specs.Answers.{verdictOf}
-use Rattle.tables.specs.Finds.{actsIn, shownBy}
+use Rattle.tables.specs.Finds.{actsIn, lateOf, shownBy}
 use Rattle.tables.proofs.Lent.{shown-length}
 use Rattle.tables.proofs.Files.{deedAt, file-sound, file-deed, file-does}
 use Rattle.tables.proofs.Runs.{Sees, Reached, Course, reached-start, reached-next, reached-stop, reached-end, now-within, event-within, history-next, history-stop, history-end}
@@ -56,7 +58,7 @@ end W F h n = endBy (staleField F h) n 0 W
 pub record Running (file : List ℕ) (counts : Counts) (S₀ Wr₀ Vr₀ Lg₀ S Wr Vr Lg : List ℕ) (n : ℕ) : Type 0 where
   pub low : n ≤ counts .events
   pub short : counts .events ≤ 16000
-  pub so-far : Reached (lateLook (counts .fields)) (end (counts .workers) (counts .fields)) file n
+  pub so-far : Reached (lateLook (firstFlag file)) (end (counts .workers) (firstFlag file)) file n
   pub shows : Shows (counts .workers) (before [] (actsIn file) n) S₀ Wr₀ Vr₀ Lg₀ S Wr Vr Lg
   pub stretch-length : length S ≡ length S₀
   pub writer-length : length Wr ≡ length Wr₀
@@ -65,7 +67,7 @@ pub record Running (file : List ℕ) (counts : Counts) (S₀ Wr₀ Vr₀ Lg₀ S
 
 -- the lengths are what the tables shown say
 running : (file : List ℕ) (counts : Counts) (S₀ Wr₀ Vr₀ Lg₀ S Wr Vr Lg : List ℕ) (n : ℕ) → n ≤ counts .events → counts .events ≤ 16000
-    → Reached (lateLook (counts .fields)) (end (counts .workers) (counts .fields)) file n
+    → Reached (lateLook (firstFlag file)) (end (counts .workers) (firstFlag file)) file n
     → Shows (counts .workers) (before [] (actsIn file) n) S₀ Wr₀ Vr₀ Lg₀ S Wr Vr Lg
     → Running file counts S₀ Wr₀ Vr₀ Lg₀ S Wr Vr Lg n
 running file counts S₀ Wr₀ Vr₀ Lg₀ S Wr Vr Lg n l k p shows = record {
@@ -83,8 +85,18 @@ module _ (file : List ℕ) (counts : Counts) (S₀ Wr₀ Vr₀ Lg₀ : List ℕ)
   good : Guarantee file counts
   good = guarantee file counts (ready .checked)
 
-  course : Course (lateLook (counts .fields)) (end (counts .workers) (counts .fields)) (counts .workers) (counts .fields) file counts
-  course = record { sees = late-sees (counts .workers) (counts .fields) (good .few-workers); good = good; sound = file-sound file counts good }
+  course : Course (lateLook (firstFlag file)) (end (counts .workers) (firstFlag file)) (counts .workers) (firstFlag file) file counts
+  course = record { sees = late-sees (counts .workers) (firstFlag file) (good .few-workers); good = good; sound = file-sound file counts good }
+
+  -- the fields that the walks are over
+  few-plain : firstFlag file ≤ 512
+  few-plain = omega (arith, plain-in-file file, ready .checked .fields, good .few-fields)
+
+  -- and leaving out the others changes no verdict
+  whole : lateVerdict (counts .workers) (firstFlag file) (firstFlag file) (eventsIn file) ≡ lateOf file
+  whole =
+      rw (← ready .checked .workers, ← ready .checked .fields)
+      (late-plain (counts .workers) (counts .fields) (firstFlag file) (omega (arith, plain-in-file file, ready .checked .fields)) (eventsIn file) (good .within))
 
   pub run-start : Running file counts S₀ Wr₀ Vr₀ Lg₀ S₀ Wr₀ Vr₀ Lg₀ 0
   unfolding before
@@ -98,7 +110,7 @@ module _ (file : List ℕ) (counts : Counts) (S₀ Wr₀ Vr₀ Lg₀ : List ℕ)
     abbrev now : History
     now = before [] (actsIn file) n
 
-    inside : ActsWithin (counts .workers) (counts .fields) now
+    inside : ActsWithin (counts .workers) (firstFlag file) now
     inside =
         now-within course n (run .so-far)
 
@@ -106,8 +118,8 @@ module _ (file : List ℕ) (counts : Counts) (S₀ Wr₀ Vr₀ Lg₀ : List ℕ)
     pub end-workers : counts .workers ≤ 16
     end-workers = good .few-workers
 
-    pub end-fields : counts .fields ≤ 512
-    end-fields = good .few-fields
+    pub end-fields : (plain : ℕ) → plain ≡ flagsFrom (fieldLabel file) (counts .fields) → plain ≤ 512
+    end-fields plain p = rw (accepted-first-flag file counts plain (ready .checked) p) few-plain
 
     pub end-writer : 512 ≤ length Wr
     end-writer = shown-length 512 (writerWord now) Wr₀ Wr (run .shows .writer)
@@ -119,22 +131,22 @@ module _ (file : List ℕ) (counts : Counts) (S₀ Wr₀ Vr₀ Lg₀ : List ℕ)
     end-log = shown-length 8192 (cells (logWord now)) Lg₀ Lg (run .shows .log)
 
     -- after the last event
-    pub run-end : (v : papers.Verdict) → counts .events ≤ n → v ≡ endBy (staleFieldBy (counts .fields) Lg Vr Wr) (counts .events) 0 (counts .workers)
-        → Ran file counts v S₀ Wr₀ Vr₀ Lg₀ S Wr Vr Lg
-    run-end v l q = record {
-      answer = rw (← ready .checked .workers, ← ready .checked .fields) (says ∙ sym (reached-end course n (run .so-far) l));
-      shows = rw (all-shown (end-looked (counts .fields) now n 0 (counts .workers))) (run .shows);
+    pub run-end : (v : papers.Verdict) (plain : ℕ) → plain ≡ flagsFrom (fieldLabel file) (counts .fields) → counts .events ≤ n
+        → v ≡ endBy (staleFieldBy plain Lg Vr Wr) (counts .events) 0 (counts .workers) → Ran file counts v S₀ Wr₀ Vr₀ Lg₀ S Wr Vr Lg
+    run-end v plain p l q = record {
+      answer = says ∙ sym (reached-end course n (run .so-far) l) ∙ whole;
+      shows = rw (all-shown (end-looked (firstFlag file) now n 0 (counts .workers))) (run .shows);
     }
       where
         here : counts .events ≡ n
         here = omega (arith, run .low)
 
-        says : v ≡ endBy (staleField (counts .fields) now) n 0 (counts .workers)
+        says : v ≡ endBy (staleField (firstFlag file) now) n 0 (counts .workers)
         says =
-            q ∙ rw here
-            (end-shown (counts .workers) (counts .fields) (good .few-workers) (good .few-fields) S₀ Wr₀ Vr₀ Lg₀ now inside (run .so-far .calm) S Wr Vr Lg (run .shows) n)
+            q ∙ rw (here, accepted-first-flag file counts plain (ready .checked) p)
+            (end-shown (counts .workers) (firstFlag file) (good .few-workers) few-plain S₀ Wr₀ Vr₀ Lg₀ now inside (run .so-far .calm) S Wr Vr Lg (run .shows) n)
 
-        all-shown : EndLooked (counts .fields) now n 0 (counts .workers) (endBy (staleField (counts .fields) now) n 0 (counts .workers)) → shownBy file v ≡ now
+        all-shown : EndLooked (firstFlag file) now n 0 (counts .workers) (endBy (staleField (firstFlag file) now) n 0 (counts .workers)) → shownBy file v ≡ now
         all-shown (all-passed k _) =
             rw (says ∙ k)
             (history-end course (ready .checked) n (run .low) l)
@@ -144,7 +156,7 @@ module _ (file : List ℕ) (counts : Counts) (S₀ Wr₀ Vr₀ Lg₀ : List ℕ)
       abbrev event : List Act
       event = actsOf (deedAt file n)
 
-      event-inside : ActsWithin (counts .workers) (counts .fields) event
+      event-inside : ActsWithin (counts .workers) (firstFlag file) event
       event-inside =
           event-within course n (run .so-far) l
 
@@ -153,20 +165,23 @@ module _ (file : List ℕ) (counts : Counts) (S₀ Wr₀ Vr₀ Lg₀ : List ℕ)
         does : d ≡ deedAt file n
         does = file-does file counts good (ready .checked) n plain p e t d k
 
-        pub run-room : Room (counts .fields) d S Wr Vr Lg
+        first : plain ≡ firstFlag file
+        first = accepted-first-flag file counts plain (ready .checked) p
+
+        pub run-room : Room plain d S Wr Vr Lg
         run-room =
-            rw does
-            (room-shown (counts .workers) (counts .fields) (firstFlag file) (good .few-workers) (good .few-fields) (eventsIn file) n (omega (arith, run .short)) (deedAt file n) (file-deed file counts good n l) S₀ Wr₀ Vr₀ Lg₀ S Wr Vr Lg (run .shows))
+            rw (first, does)
+            (room-shown (counts .workers) (firstFlag file) (firstFlag file) (good .few-workers) few-plain (eventsIn file) n (omega (arith, run .short)) (deedAt file n) (file-deed file counts good n l) S₀ Wr₀ Vr₀ Lg₀ S Wr Vr Lg (run .shows))
 
         module _ (r : Verdict) (S′ Wr′ Vr′ Lg′ : List ℕ)
-            (step : Stepped (counts .workers) (counts .fields) n (actsOf d) (verdictOf r) S Wr Vr Lg S′ Wr′ Vr′ Lg′) where
+            (step : Stepped (counts .workers) plain n (actsOf d) (verdictOf r) S Wr Vr Lg S′ Wr′ Vr′ Lg′) where
           -- what the words say of event n is the late look at it
-          stepped : Stepped (counts .workers) (counts .fields) n event (verdictOf r) S Wr Vr Lg S′ Wr′ Vr′ Lg′
-          stepped = rw does at step
+          stepped : Stepped (counts .workers) (firstFlag file) n event (verdictOf r) S Wr Vr Lg S′ Wr′ Vr′ Lg′
+          stepped = rw (first, does) at step
 
-          says : verdictOf r ≡ firstOf (lateLook (counts .fields) now n) event
+          says : verdictOf r ≡ firstOf (lateLook (firstFlag file) now n) event
           says =
-              step-says (counts .workers) (counts .fields) (good .few-workers) (good .few-fields) now inside n event event-inside (verdictOf r) S₀ Wr₀ Vr₀ Lg₀ S Wr Vr Lg S′ Wr′ Vr′ Lg′ (run .shows) stepped (run .so-far .calm)
+              step-says (counts .workers) (firstFlag file) (good .few-workers) few-plain now inside n event event-inside (verdictOf r) S₀ Wr₀ Vr₀ Lg₀ S Wr Vr Lg S′ Wr′ Vr′ Lg′ (run .shows) stepped (run .so-far .calm)
 
           pub run-next : r ≡ Accepted → Running file counts S₀ Wr₀ Vr₀ Lg₀ S′ Wr′ Vr′ Lg′ (n + 1)
           run-next o =
@@ -176,16 +191,14 @@ module _ (file : List ℕ) (counts : Counts) (S₀ Wr₀ Vr₀ Lg₀ : List ℕ)
               let history = history-next course n (run .so-far) l in
               running file counts S₀ Wr₀ Vr₀ Lg₀ S′ Wr′ Vr′ Lg′ (n + 1) (omega arith) (run .short) later
               (rw history
-              (step-passed (counts .workers) (counts .fields) (good .few-workers) (good .few-fields) now inside n event event-inside (verdictOf r) S₀ Wr₀ Vr₀ Lg₀ S Wr Vr Lg S′ Wr′ Vr′ Lg′ (run .shows) stepped (ap verdictOf o) (rw history at (later .calm))))
+              (step-passed (counts .workers) (firstFlag file) (good .few-workers) few-plain now inside n event event-inside (verdictOf r) S₀ Wr₀ Vr₀ Lg₀ S Wr Vr Lg S′ Wr′ Vr′ Lg′ (run .shows) stepped (ap verdictOf o) (rw history at (later .calm))))
 
           pub run-stop : (m a : ℕ) (w u : Worker) (f : Field) → r ≡ Reported m a w u f → Ran file counts (verdictOf r) S₀ Wr₀ Vr₀ Lg₀ S′ Wr′ Vr′ Lg′
           run-stop m a w u f o =
               let o′ = ap verdictOf o in
               record {
-                answer =
-                    rw (← ready .checked .workers, ← ready .checked .fields)
-                    (o′ ∙ sym (reached-stop course n (run .so-far) l m a (w .0) (u .0) (f .0) (sym says ∙ o′)));
+                answer = o′ ∙ sym (reached-stop course n (run .so-far) l m a (w .0) (u .0) (f .0) (sym says ∙ o′)) ∙ whole;
                 shows =
                     rw (history-stop course n (run .so-far) l (verdictOf r) m a (w .0) (u .0) (f .0) says o′)
-                    (step-stopped (counts .workers) (counts .fields) (good .few-workers) (good .few-fields) now inside n event event-inside (verdictOf r) S₀ Wr₀ Vr₀ Lg₀ S Wr Vr Lg S′ Wr′ Vr′ Lg′ (run .shows) stepped m a (w .0) (u .0) (f .0) o′);
+                    (step-stopped (counts .workers) (firstFlag file) (good .few-workers) few-plain now inside n event event-inside (verdictOf r) S₀ Wr₀ Vr₀ Lg₀ S Wr Vr Lg S′ Wr′ Vr′ Lg′ (run .shows) stepped m a (w .0) (u .0) (f .0) o′);
               }

@@ -12,20 +12,19 @@ use lib.ListN.{length, getD}
 use borrow.Author.Tests.{ltb-false}
 use Rattle.events.specs.declared.Event.{Event}
 use Rattle.events.specs.declared.Deed.{Deed}
-use Rattle.events.specs.declared.Deed.the-variants.{Reads, Writes, Crosses, Signals}
 use Rattle.events.specs.Acts.{Act, History, recordingOf, entered, before, DeedWithin, reads, writes, crosses}
 use Rattle.events.specs.Stretches.{hasWritten, staleRead, wroteLast}
 use Rattle.events.specs.Clashes.{OnWritten}
 use Rattle.events.specs.Words.{stretchWord, writerWord, versionWord, once, logWord}
-use Rattle.events.specs.Search.{Found}
 use Rattle.events.specs.Verdicts.{Verdict, accepted, reported, firstOf, otherWriter, staleField, lateBy, lateLook, endBy}
 use Rattle.events.proofs.Tests.{bool, same}
 use Rattle.events.proofs.Search.{lowest-ext}
-use Rattle.events.proofs.Histories.{ActWithin, ActsWithin, event-short, before-next, No}
+use Rattle.events.proofs.Histories.{ActWithin, ActsWithin, deed-wider, event-short, before-next, No}
 use Rattle.events.proofs.Stretches.{stretch-low}
 use Rattle.events.proofs.Words.{has-written}
 use Rattle.events.proofs.Unused.{unused-log}
 use Rattle.events.proofs.Stale.{wrote-last, stale-by-words}
+use Rattle.events.proofs.Late.{end-ext}
 use Rattle.tables.specs.Lent.{cells, filled, Shown}
 use Rattle.tables.specs.Steps.{writerBy, stretchWith, stretchAfter, writerWith, writerAfter}
 use Rattle.tables.proofs.Lent.{shown-length, shown-same, shown-set, shown-cell, eqb-cell}
@@ -50,12 +49,6 @@ calm-so-far : (h : History) (e : List Act) → No OnWritten (entered h e) → No
 unfolding entered
 calm-so-far h [] c = c
 calm-so-far h (a ∷ more) c = calm-so-far (a ∷ h) more c .1
-
--- two ways to find a worker's stale field that agree say the same at the end
-end-ext : (p q : ℕ → Found) (n w k : ℕ) → ((u : ℕ) → u < w + k → p u ≡ q u) → endBy p n w k ≡ endBy q n w k
-unfolding endBy
-end-ext p q n w zero z = refl
-end-ext p q n w (suc k) z = rw (z w (omega arith), end-ext p q n (w + 1) k (λ u l. z u (omega arith)))
 
 -- the tables before event 0
 pub shows-start : (W : ℕ) (S₀ Wr₀ Vr₀ Lg₀ S₁ S Wr Vr Lg : List ℕ) → W ≤ 16 → Sized S₀ Wr₀ Vr₀ Lg₀ → S₁ ≡ filled 16 0 S₀ → S ≡ filled W 1 S₁
@@ -208,12 +201,6 @@ version-low P es (suc n) f =
     let y = version-entered (before [] (recordingOf P es) n) (getD (recordingOf P es) n []) f in
     let z = event-short P es n in
     rw before-next (omega arith)
-
-deed-wider : (W G F : ℕ) → W ≤ G → (d : Deed) → DeedWithin W F d → DeedWithin G F d
-deed-wider W G F l (Reads w f) i = (omega arith, i .1)
-deed-wider W G F l (Writes w f) i = (omega arith, i .1)
-deed-wider W G F l (Crosses w) i = omega arith
-deed-wider W G F l (Signals w) i = omega arith
 
 -- on tables that show the events before event n, a step can be taken
 pub room-shown : (W F P : ℕ) → W ≤ 16 → F ≤ 512 → (es : List Event) (n : ℕ) → n ≤ 16000 → (d : Deed) → DeedWithin W F d

@@ -179,7 +179,8 @@ fn step(
     r
 }
 
-// The events in their order, on tables that show that nothing has happened yet, and then the end.
+// The events in their order, on tables that show that nothing has happened yet, and then the end. Nothing of a flag is ever logged, so
+// the walks are over the plain fields.
 fn run(
     file: &[u8],
     counts: Counts,
@@ -192,17 +193,16 @@ fn run(
     ensures { λ r. ⌜ Ran (now (file .entry)) counts (verdictOf r) (now (stretch .entry)) (now (writer .entry)) (now (version .entry)) (now (log .entry)) (now (stretch .exit)) (now (writer .exit)) (now (version .exit)) (now (log .exit)) ⌝ }
 {
     let workers = counts.workers;
-    let fields = counts.fields;
-    let plain = flags::first_flag(file, fields);
+    let plain = flags::first_flag(file, counts.fields);
     for n in 0..counts.events {
         let e = recording::event_at(file, counts, n);
         let d = events::deed_of(plain, e);
-        let r = step(stretch, writer, version, log, workers, fields, n, d);
+        let r = step(stretch, writer, version, log, workers, plain, n, d);
         if let Verdict::Reported(_, _, _, _, _) = r {
             return r;
         }
     }
-    stale::at_end(writer, version, log, workers, fields, counts.events)
+    stale::at_end(writer, version, log, workers, plain, counts.events)
 }
 
 // The tables before event 0: every worker is in stretch 1, and nothing has happened.

@@ -9,7 +9,7 @@ use Rattle.events.specs.declared.Deed.{Deed}
 use Rattle.events.specs.declared.Deed.the-variants.{Reads, Writes, Crosses, Signals}
 use Rattle.events.specs.Acts.{deedOf, actsOf, before, DeedWithin, deedWorker}
 use Rattle.events.specs.Stretches.{stretchOf}
-use Rattle.events.proofs.Histories.{Sound, recording-sound, recording-length, deed-within, within-wider, event-is}
+use Rattle.events.proofs.Histories.{Sound, recording-sound, recording-length, deed-within, deed-wider, event-is}
 use Rattle.events.proofs.Stretches.{stretch-low}
 use Rattle.recording.specs.declared.Counts.{Counts}
 use Rattle.recording.specs.File.{Accepted, fieldLabel, eventAt, eventsIn}
@@ -23,14 +23,17 @@ abbrev pub deedAt : List ℕ → ℕ → Deed
 deedAt file n = deedOf (firstFlag file) (eventAt file n)
 
 module _ (file : List ℕ) (counts : Counts) (good : Guarantee file counts) where
-  pub file-sound : Sound (counts .workers) (counts .fields) (actsIn file)
-  file-sound = recording-sound (firstFlag file) (counts .workers) (counts .fields) (eventsIn file) (good .within)
+  -- no act touches a flag
+  pub file-sound : Sound (counts .workers) (firstFlag file) (actsIn file)
+  file-sound =
+      recording-sound (firstFlag file) (counts .workers) (counts .fields) (firstFlag file) (λ f plain _. plain) (eventsIn file) (good .within)
 
   -- over all the fields that a table has words for
+  below : (f : ℕ) → f < firstFlag file → f < counts .fields → f < 512
+  below f _ l = omega (arith, good .few-fields)
+
   pub file-sound-full : Sound (counts .workers) 512 (actsIn file)
-  file-sound-full =
-      recording-sound (firstFlag file) (counts .workers) 512 (eventsIn file)
-      (within-wider (counts .workers) (counts .fields) 512 (eventsIn file) (good .few-fields) (good .within))
+  file-sound-full = recording-sound (firstFlag file) (counts .workers) (counts .fields) 512 below (eventsIn file) (good .within)
 
   pub file-length : length (actsIn file) ≡ counts .events
   file-length = recording-length (firstFlag file) (eventsIn file) ∙ good .count
@@ -39,19 +42,16 @@ module _ (file : List ℕ) (counts : Counts) (good : Guarantee file counts) wher
     pub file-event : getD (actsIn file) n [] ≡ actsOf (deedAt file n)
     file-event = event-is (firstFlag file) (eventsIn file) (drop (n + 1) (eventsIn file)) n (eventAt file n) (good .next n l)
 
-    pub file-deed : DeedWithin (counts .workers) (counts .fields) (deedAt file n)
-    file-deed = deed-within (counts .workers) (counts .fields) (firstFlag file) (eventAt file n) (good .event-within n l)
-
-    full : (d : Deed) → DeedWithin (counts .workers) (counts .fields) d → DeedWithin 16 512 d
-    full (Reads w f) i = (omega (arith, i .0, good .few-workers), omega (arith, i .1, good .few-fields))
-    full (Writes w f) i = (omega (arith, i .0, good .few-workers), omega (arith, i .1, good .few-fields))
-    full (Crosses w) i = omega (arith, i, good .few-workers)
-    full (Signals w) i = omega (arith, i, good .few-workers)
+    pub file-deed : DeedWithin (counts .workers) (firstFlag file) (deedAt file n)
+    file-deed =
+        deed-within (counts .workers) (counts .fields) (firstFlag file) (firstFlag file) (λ f plain _. plain) (eventAt file n) (good .event-within n l)
 
     pub file-numbers : DeedWithin 16 512 (deedAt file n)
-    file-numbers = full (deedAt file n) file-deed
+    file-numbers =
+        deed-wider (counts .workers) 16 512 (good .few-workers) (deedAt file n)
+        (deed-within (counts .workers) (counts .fields) 512 (firstFlag file) below (eventAt file n) (good .event-within n l))
 
-    its-worker : (d : Deed) → DeedWithin (counts .workers) (counts .fields) d → deedWorker d < counts .workers
+    its-worker : (d : Deed) → DeedWithin (counts .workers) (firstFlag file) d → deedWorker d < counts .workers
     its-worker (Reads w f) i = i .0
     its-worker (Writes w f) i = i .0
     its-worker (Crosses w) i = i

@@ -6,11 +6,11 @@ use Rattle.late.proofs.run.Statement.{statement}
 use Rattle.late.proofs.run.Tie as tie
 
 abbrev Inv-loop : tie.InvT-loop
-Inv-loop file counts stretch₀ writer₀ version₀ log₀ workers fields plain n₀ n-end stretch writer version log n =
+Inv-loop file counts stretch₀ writer₀ version₀ log₀ workers plain n₀ n-end stretch writer version log n =
     Running file counts stretch₀ writer₀ version₀ log₀ stretch writer version log n
 
 abbrev μ-loop : tie.MeasureT-loop
-μ-loop file counts stretch₀ writer₀ version₀ log₀ workers fields plain n₀ n-end stretch writer version log n =
+μ-loop file counts stretch₀ writer₀ version₀ log₀ workers plain n₀ n-end stretch writer version log n =
     counts .events - n
 
 first-flag-requires : tie.Need-first-flag-requires Inv-loop μ-loop
