@@ -25,7 +25,6 @@ const FIRST_FLAG_LABEL: usize = 32_768;
 /// The counts of a well-formed file and where its events start.
 struct Counts {
     workers: usize,
-    fields: usize,
     /// The number of the first field that is a flag, or the field count: labels rise, so all later ones are flags too.
     first_flag: usize,
     events: usize,
@@ -116,7 +115,6 @@ fn check(file: &[u8]) -> Result<Counts, Answer> {
     }
     Ok(Counts {
         workers,
-        fields,
         first_flag,
         events,
         first_event,
@@ -196,15 +194,15 @@ pub fn early(file: &[u8], stretch: &mut [u32], writer: &mut [u32], readers: &mut
     Answer::Accepted
 }
 
-/// The lowest field that another worker has written since the worker's open stretch read it.
+/// The lowest field that another worker has written since the worker's open stretch read it. No flag is ever logged.
 fn stale(
     writer: &[u32],
     version: &[u32],
     log: &[u32],
     worker: usize,
-    fields: usize,
+    first_flag: usize,
 ) -> Option<usize> {
-    (0..fields).find(|&field| {
+    (0..first_flag).find(|&field| {
         let logged = log[16 * field + worker];
         let other_wrote_last = (writer[field] % 16) as usize != worker;
         logged > 0 && (version[field] > logged || (version[field] == logged && other_wrote_last))
@@ -236,7 +234,7 @@ pub fn late(
     for (event, bytes) in events.chunks_exact(4).enumerate() {
         let (kind, worker, field) = (bytes[0], usize::from(bytes[1]), two_bytes(bytes, 2));
         if let Some(rise) = closing(kind, field, counts.first_flag) {
-            if let Some(field) = stale(writer, version, log, worker, counts.fields) {
+            if let Some(field) = stale(writer, version, log, worker, counts.first_flag) {
                 return Answer::Reported {
                     event,
                     sort: 2,
@@ -245,7 +243,7 @@ pub fn late(
                     field,
                 };
             }
-            for field in 0..counts.fields {
+            for field in 0..counts.first_flag {
                 log[16 * field + worker] = 0;
             }
             stretch[worker] += rise;
@@ -273,7 +271,7 @@ pub fn late(
         }
     }
     for worker in 0..counts.workers {
-        if let Some(field) = stale(writer, version, log, worker, counts.fields) {
+        if let Some(field) = stale(writer, version, log, worker, counts.first_flag) {
             return Answer::Reported {
                 event: counts.events,
                 sort: 2,

@@ -1,5 +1,5 @@
--- One step of the late finder by the words alone, whatever they are. W is the worker count and F the field count; S, Wr, Vr and Lg are the
--- stretch, writer, version and log words.
+-- One step of the late finder by the words alone, whatever they are. W is the worker count and F the number of plain fields; S, Wr, Vr and
+-- Lg are the stretch, writer, version and log words.
 use mathlib.Core.Path.{_≡_}
 use mathlib.Core.Bool.{Bool, cond}
 use mathlib.Core.List.{List, [], _∷_}
@@ -38,7 +38,7 @@ cleared Lg w (suc k) = set (cleared Lg w k) (16 * k + w) 0
 unfoldable pub logRead : List ℕ → List ℕ → List ℕ → List ℕ → ℕ → ℕ → List ℕ
 logRead S Wr Vr Lg w f = cond (wroteBy S Wr w f) Lg (set Lg (16 * f + w) (once (getD Lg (16 * f + w) 0) (getD Vr f 0 + 1)))
 
--- Else 0. So w's crossing clears its words, and no more than those of the fields that exist.
+-- Else 0. So w's crossing clears its words, and no more than those of the plain fields: nothing of a flag is ever logged.
 unfoldable pub logWith : ℕ → List ℕ → List ℕ → List ℕ → List ℕ → Act → List ℕ
 logWith F S Wr Vr Lg (reads w f) = logRead S Wr Vr Lg w f
 logWith F S Wr Vr Lg (writes w f) = Lg

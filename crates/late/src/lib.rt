@@ -45,12 +45,12 @@ fn look(
     version: &[u32],
     log: &[u32],
     workers: u32,
-    fields: u32,
+    plain: u32,
     n: u32,
     d: Deed,
 ) -> Verdict
-    requires { ⌜ Room fields d (now stretch) (now writer) (now version) (now log) ⌝ }
-    ensures { λ r. ⌜ verdictOf r ≡ lateMeets workers fields (now (stretch .entry)) (now (writer .entry)) (now (version .entry)) (now (log .entry)) n (actsOf d) ⌝ }
+    requires { ⌜ Room plain d (now stretch) (now writer) (now version) (now log) ⌝ }
+    ensures { λ r. ⌜ verdictOf r ≡ lateMeets workers plain (now (stretch .entry)) (now (writer .entry)) (now (version .entry)) (now (log .entry)) n (actsOf d) ⌝ }
 {
     match d {
         Deed::Reads(w, f) => match tables::other_writer(stretch, writer, workers, w, f) {
@@ -61,8 +61,8 @@ fn look(
             Other::Worker(u) => Verdict::Reported(n, 1, w, u, f),
             Other::Nobody => Verdict::Accepted,
         },
-        Deed::Crosses(w) => stale::at_crossing(writer, version, log, fields, w, n),
-        Deed::Signals(w) => stale::at_crossing(writer, version, log, fields, w, n),
+        Deed::Crosses(w) => stale::at_crossing(writer, version, log, plain, w, n),
+        Deed::Signals(w) => stale::at_crossing(writer, version, log, plain, w, n),
     }
 }
 
@@ -118,24 +118,24 @@ fn enter_write(stretch: &[u32], writer: &mut [u32], version: &mut [u32], w: Work
     tables::enter_write(stretch, writer, w, f);
 }
 
-// Worker w's log words of the fields that exist become 0.
-fn clear_log(log: &mut [u32], fields: u32, w: Worker)
-    requires { ⌜ (w .0 < 16) × (fields ≤ 512) × (8192 ≤ length (now log)) ⌝ }
-    ensures { λ _. ⌜ now (log .exit) ≡ cleared (now (log .entry)) (w .0) fields ⌝ }
+// Worker w's log words of the plain fields become 0.
+fn clear_log(log: &mut [u32], plain: u32, w: Worker)
+    requires { ⌜ (w .0 < 16) × (plain ≤ 512) × (8192 ≤ length (now log)) ⌝ }
+    ensures { λ _. ⌜ now (log .exit) ≡ cleared (now (log .entry)) (w .0) plain ⌝ }
 {
-    for f in 0..fields {
+    for f in 0..plain {
         let j = tables::place(w, Field(f));
         log[j] = 0;
     }
 }
 
 // Worker w's stretch closes: its number rises, and its log words become 0.
-fn close(stretch: &mut [u32], log: &mut [u32], fields: u32, w: Worker, rise: u32)
-    requires { ⌜ (w .0 < 16) × (fields ≤ 512) × (16 ≤ length (now stretch)) × (8192 ≤ length (now log)) × (getD (now stretch) (w .0) 0 < 268435456) × (rise ≤ 2) ⌝ }
-    ensures { λ _. ⌜ (now (stretch .exit) ≡ set (now (stretch .entry)) (w .0) (getD (now (stretch .entry)) (w .0) 0 + rise)) × (now (log .exit) ≡ cleared (now (log .entry)) (w .0) fields) ⌝ }
+fn close(stretch: &mut [u32], log: &mut [u32], plain: u32, w: Worker, rise: u32)
+    requires { ⌜ (w .0 < 16) × (plain ≤ 512) × (16 ≤ length (now stretch)) × (8192 ≤ length (now log)) × (getD (now stretch) (w .0) 0 < 268435456) × (rise ≤ 2) ⌝ }
+    ensures { λ _. ⌜ (now (stretch .exit) ≡ set (now (stretch .entry)) (w .0) (getD (now (stretch .entry)) (w .0) 0 + rise)) × (now (log .exit) ≡ cleared (now (log .entry)) (w .0) plain) ⌝ }
 {
     tables::close_stretch(stretch, w, rise);
-    clear_log(log, fields, w);
+    clear_log(log, plain, w);
 }
 
 // What an event does that is not reported.
@@ -144,17 +144,17 @@ fn enter(
     writer: &mut [u32],
     version: &mut [u32],
     log: &mut [u32],
-    fields: u32,
+    plain: u32,
     d: Deed,
 )
-    requires { ⌜ Room fields d (now stretch) (now writer) (now version) (now log) ⌝ }
-    ensures { λ _. ⌜ Entered fields (actsOf d) (now (stretch .entry)) (now (writer .entry)) (now (version .entry)) (now (log .entry)) (now (stretch .exit)) (now (writer .exit)) (now (version .exit)) (now (log .exit)) ⌝ }
+    requires { ⌜ Room plain d (now stretch) (now writer) (now version) (now log) ⌝ }
+    ensures { λ _. ⌜ Entered plain (actsOf d) (now (stretch .entry)) (now (writer .entry)) (now (version .entry)) (now (log .entry)) (now (stretch .exit)) (now (writer .exit)) (now (version .exit)) (now (log .exit)) ⌝ }
 {
     match d {
         Deed::Reads(w, f) => enter_read(stretch, writer, version, log, w, f),
         Deed::Writes(w, f) => enter_write(stretch, writer, version, w, f),
-        Deed::Crosses(w) => close(stretch, log, fields, w, 1),
-        Deed::Signals(w) => close(stretch, log, fields, w, 2),
+        Deed::Crosses(w) => close(stretch, log, plain, w, 1),
+        Deed::Signals(w) => close(stretch, log, plain, w, 2),
     }
 }
 
@@ -165,16 +165,16 @@ fn step(
     version: &mut [u32],
     log: &mut [u32],
     workers: u32,
-    fields: u32,
+    plain: u32,
     n: u32,
     d: Deed,
 ) -> Verdict
-    requires { ⌜ Room fields d (now stretch) (now writer) (now version) (now log) ⌝ }
-    ensures { λ r. ⌜ Stepped workers fields n (actsOf d) (verdictOf r) (now (stretch .entry)) (now (writer .entry)) (now (version .entry)) (now (log .entry)) (now (stretch .exit)) (now (writer .exit)) (now (version .exit)) (now (log .exit)) ⌝ }
+    requires { ⌜ Room plain d (now stretch) (now writer) (now version) (now log) ⌝ }
+    ensures { λ r. ⌜ Stepped workers plain n (actsOf d) (verdictOf r) (now (stretch .entry)) (now (writer .entry)) (now (version .entry)) (now (log .entry)) (now (stretch .exit)) (now (writer .exit)) (now (version .exit)) (now (log .exit)) ⌝ }
 {
-    let r = look(stretch, writer, version, log, workers, fields, n, d);
+    let r = look(stretch, writer, version, log, workers, plain, n, d);
     if let Verdict::Accepted = r {
-        enter(stretch, writer, version, log, fields, d);
+        enter(stretch, writer, version, log, plain, d);
     }
     r
 }
