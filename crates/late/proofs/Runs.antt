@@ -15,8 +15,8 @@ use Rattle.events.specs.Verdicts.{accepted, reported, firstOf, staleField, endB
 use Rattle.events.specs.Verdicts as papers
 use Rattle.events.proofs.Histories.{ActsWithin}
 use Rattle.events.proofs.Walks.{not-both}
-use Rattle.events.proofs.Plain.{late-plain}
 use Rattle.events.proofs.Late.{LateLooked, passed, stopped, late-looked, EndLooked, all-passed, one-stopped, end-looked}
+use Rattle.events.proofs.Plain.{late-plain}
 use Rattle.recording.specs.declared.Counts.{Counts}
 use Rattle.recording.specs.File.{fieldLabel, eventAt, eventsIn}
 use Rattle.recording.proofs.Guarantee.{Guarantee, guarantee}
