@@ -33,7 +33,8 @@ pub fn all() -> Vec<Input> {
     inputs
 }
 
-/// Every field is plain data. Crossings are of a thousand events, writes of a thousand accesses.
+/// Every field is plain data. Crossings are of a thousand events, writes of a thousand accesses. A worker that finds no
+/// free field crosses too, so that nothing clashes: with sixteen that mostly write, there are never few crossings.
 fn with_crossings(workers: usize, writes: usize, crossings: usize) -> Shape {
     Shape {
         workers,
