@@ -118,9 +118,6 @@ module _ (file : List ℕ) (counts : Counts) (S₀ Wr₀ Vr₀ Lg₀ : List ℕ)
     pub end-workers : counts .workers ≤ 16
     end-workers = good .few-workers
 
-    pub end-fields : (plain : ℕ) → plain ≡ flagsFrom (fieldLabel file) (counts .fields) → plain ≤ 512
-    end-fields plain p = rw (accepted-first-flag file counts plain (ready .checked) p) few-plain
-
     pub end-writer : 512 ≤ length Wr
     end-writer = shown-length 512 (writerWord now) Wr₀ Wr (run .shows .writer)
 
@@ -130,75 +127,80 @@ module _ (file : List ℕ) (counts : Counts) (S₀ Wr₀ Vr₀ Lg₀ : List ℕ)
     pub end-log : 8192 ≤ length Lg
     end-log = shown-length 8192 (cells (logWord now)) Lg₀ Lg (run .shows .log)
 
-    -- after the last event
-    pub run-end : (v : papers.Verdict) (plain : ℕ) → plain ≡ flagsFrom (fieldLabel file) (counts .fields) → counts .events ≤ n
-        → v ≡ endBy (staleFieldBy plain Lg Vr Wr) (counts .events) 0 (counts .workers) → Ran file counts v S₀ Wr₀ Vr₀ Lg₀ S Wr Vr Lg
-    run-end v plain p l q = record {
-      answer = says ∙ sym (reached-end course n (run .so-far) l) ∙ whole;
-      shows = rw (all-shown (end-looked (firstFlag file) now n 0 (counts .workers))) (run .shows);
-    }
-      where
-        here : counts .events ≡ n
-        here = omega (arith, run .low)
+    -- with the number of plain fields that the flags gave
+    module _ (plain : ℕ) (p : plain ≡ flagsFrom (fieldLabel file) (counts .fields)) where
+      first : plain ≡ firstFlag file
+      first = accepted-first-flag file counts plain (ready .checked) p
 
-        says : v ≡ endBy (staleField (firstFlag file) now) n 0 (counts .workers)
-        says =
-            q ∙ rw (here, accepted-first-flag file counts plain (ready .checked) p)
-            (end-shown (counts .workers) (firstFlag file) (good .few-workers) few-plain S₀ Wr₀ Vr₀ Lg₀ now inside (run .so-far .calm) S Wr Vr Lg (run .shows) n)
+      pub end-fields : plain ≤ 512
+      end-fields = rw first few-plain
 
-        all-shown : EndLooked (firstFlag file) now n 0 (counts .workers) (endBy (staleField (firstFlag file) now) n 0 (counts .workers)) → shownBy file v ≡ now
-        all-shown (all-passed k _) =
-            rw (says ∙ k)
-            (history-end course (ready .checked) n (run .low) l)
-        all-shown (one-stopped u f k _) = rw (says ∙ k)
+      -- after the last event
+      pub run-end : (v : papers.Verdict) → counts .events ≤ n → v ≡ endBy (staleFieldBy plain Lg Vr Wr) (counts .events) 0 (counts .workers)
+          → Ran file counts v S₀ Wr₀ Vr₀ Lg₀ S Wr Vr Lg
+      run-end v l q = record {
+        answer = says ∙ sym (reached-end course n (run .so-far) l) ∙ whole;
+        shows = rw (all-shown (end-looked (firstFlag file) now n 0 (counts .workers))) (run .shows);
+      }
+        where
+          here : counts .events ≡ n
+          here = omega (arith, run .low)
 
-    module _ (l : n < counts .events) where
-      abbrev event : List Act
-      event = actsOf (deedAt file n)
-
-      event-inside : ActsWithin (counts .workers) (firstFlag file) event
-      event-inside =
-          event-within course n (run .so-far) l
-
-      -- Event n does d. The loop has it from the event and the number of plain fields.
-      module _ (plain : ℕ) (p : plain ≡ flagsFrom (fieldLabel file) (counts .fields)) (e : Event) (t : e ≡ eventAt file n) (d : Deed) (k : d ≡ deedOf plain e) where
-        does : d ≡ deedAt file n
-        does = file-does file counts good (ready .checked) n plain p e t d k
-
-        first : plain ≡ firstFlag file
-        first = accepted-first-flag file counts plain (ready .checked) p
-
-        pub run-room : Room plain d S Wr Vr Lg
-        run-room =
-            rw (first, does)
-            (room-shown (counts .workers) (firstFlag file) (firstFlag file) (good .few-workers) few-plain (eventsIn file) n (omega (arith, run .short)) (deedAt file n) (file-deed file counts good n l) S₀ Wr₀ Vr₀ Lg₀ S Wr Vr Lg (run .shows))
-
-        module _ (r : Verdict) (S′ Wr′ Vr′ Lg′ : List ℕ)
-            (step : Stepped (counts .workers) plain n (actsOf d) (verdictOf r) S Wr Vr Lg S′ Wr′ Vr′ Lg′) where
-          -- what the words say of event n is the late look at it
-          stepped : Stepped (counts .workers) (firstFlag file) n event (verdictOf r) S Wr Vr Lg S′ Wr′ Vr′ Lg′
-          stepped = rw (first, does) at step
-
-          says : verdictOf r ≡ firstOf (lateLook (firstFlag file) now n) event
+          says : v ≡ endBy (staleField (firstFlag file) now) n 0 (counts .workers)
           says =
-              step-says (counts .workers) (firstFlag file) (good .few-workers) few-plain now inside n event event-inside (verdictOf r) S₀ Wr₀ Vr₀ Lg₀ S Wr Vr Lg S′ Wr′ Vr′ Lg′ (run .shows) stepped (run .so-far .calm)
+              q ∙ rw (here, first)
+              (end-shown (counts .workers) (firstFlag file) (good .few-workers) few-plain S₀ Wr₀ Vr₀ Lg₀ now inside (run .so-far .calm) S Wr Vr Lg (run .shows) n)
 
-          pub run-next : r ≡ Accepted → Running file counts S₀ Wr₀ Vr₀ Lg₀ S′ Wr′ Vr′ Lg′ (n + 1)
-          run-next o =
-              let later =
-              reached-next course n (run .so-far) l
-              (sym says ∙ ap verdictOf o) in
-              let history = history-next course n (run .so-far) l in
-              running file counts S₀ Wr₀ Vr₀ Lg₀ S′ Wr′ Vr′ Lg′ (n + 1) (omega arith) (run .short) later
-              (rw history
-              (step-passed (counts .workers) (firstFlag file) (good .few-workers) few-plain now inside n event event-inside (verdictOf r) S₀ Wr₀ Vr₀ Lg₀ S Wr Vr Lg S′ Wr′ Vr′ Lg′ (run .shows) stepped (ap verdictOf o) (rw history at (later .calm))))
+          all-shown : EndLooked (firstFlag file) now n 0 (counts .workers) (endBy (staleField (firstFlag file) now) n 0 (counts .workers)) → shownBy file v ≡ now
+          all-shown (all-passed k _) =
+              rw (says ∙ k)
+              (history-end course (ready .checked) n (run .low) l)
+          all-shown (one-stopped u f k _) = rw (says ∙ k)
 
-          pub run-stop : (m a : ℕ) (w u : Worker) (f : Field) → r ≡ Reported m a w u f → Ran file counts (verdictOf r) S₀ Wr₀ Vr₀ Lg₀ S′ Wr′ Vr′ Lg′
-          run-stop m a w u f o =
-              let o′ = ap verdictOf o in
-              record {
-                answer = o′ ∙ sym (reached-stop course n (run .so-far) l m a (w .0) (u .0) (f .0) (sym says ∙ o′)) ∙ whole;
-                shows =
-                    rw (history-stop course n (run .so-far) l (verdictOf r) m a (w .0) (u .0) (f .0) says o′)
-                    (step-stopped (counts .workers) (firstFlag file) (good .few-workers) few-plain now inside n event event-inside (verdictOf r) S₀ Wr₀ Vr₀ Lg₀ S Wr Vr Lg S′ Wr′ Vr′ Lg′ (run .shows) stepped m a (w .0) (u .0) (f .0) o′);
-              }
+      module _ (l : n < counts .events) where
+        abbrev event : List Act
+        event = actsOf (deedAt file n)
+
+        event-inside : ActsWithin (counts .workers) (firstFlag file) event
+        event-inside =
+            event-within course n (run .so-far) l
+
+        -- Event n does d. The loop has it from the event and the number of plain fields.
+        module _ (e : Event) (t : e ≡ eventAt file n) (d : Deed) (k : d ≡ deedOf plain e) where
+          does : d ≡ deedAt file n
+          does = file-does file counts good (ready .checked) n plain p e t d k
+
+          pub run-room : Room plain d S Wr Vr Lg
+          run-room =
+              rw (first, does)
+              (room-shown (counts .workers) (firstFlag file) (firstFlag file) (good .few-workers) few-plain (eventsIn file) n (omega (arith, run .short)) (deedAt file n) (file-deed file counts good n l) S₀ Wr₀ Vr₀ Lg₀ S Wr Vr Lg (run .shows))
+
+          module _ (r : Verdict) (S′ Wr′ Vr′ Lg′ : List ℕ)
+              (step : Stepped (counts .workers) plain n (actsOf d) (verdictOf r) S Wr Vr Lg S′ Wr′ Vr′ Lg′) where
+            -- what the words say of event n is the late look at it
+            stepped : Stepped (counts .workers) (firstFlag file) n event (verdictOf r) S Wr Vr Lg S′ Wr′ Vr′ Lg′
+            stepped = rw (first, does) at step
+
+            says : verdictOf r ≡ firstOf (lateLook (firstFlag file) now n) event
+            says =
+                step-says (counts .workers) (firstFlag file) (good .few-workers) few-plain now inside n event event-inside (verdictOf r) S₀ Wr₀ Vr₀ Lg₀ S Wr Vr Lg S′ Wr′ Vr′ Lg′ (run .shows) stepped (run .so-far .calm)
+
+            pub run-next : r ≡ Accepted → Running file counts S₀ Wr₀ Vr₀ Lg₀ S′ Wr′ Vr′ Lg′ (n + 1)
+            run-next o =
+                let later =
+                reached-next course n (run .so-far) l
+                (sym says ∙ ap verdictOf o) in
+                let history = history-next course n (run .so-far) l in
+                running file counts S₀ Wr₀ Vr₀ Lg₀ S′ Wr′ Vr′ Lg′ (n + 1) (omega arith) (run .short) later
+                (rw history
+                (step-passed (counts .workers) (firstFlag file) (good .few-workers) few-plain now inside n event event-inside (verdictOf r) S₀ Wr₀ Vr₀ Lg₀ S Wr Vr Lg S′ Wr′ Vr′ Lg′ (run .shows) stepped (ap verdictOf o) (rw history at (later .calm))))
+
+            pub run-stop : (m a : ℕ) (w u : Worker) (f : Field) → r ≡ Reported m a w u f → Ran file counts (verdictOf r) S₀ Wr₀ Vr₀ Lg₀ S′ Wr′ Vr′ Lg′
+            run-stop m a w u f o =
+                let o′ = ap verdictOf o in
+                record {
+                  answer = o′ ∙ sym (reached-stop course n (run .so-far) l m a (w .0) (u .0) (f .0) (sym says ∙ o′)) ∙ whole;
+                  shows =
+                      rw (history-stop course n (run .so-far) l (verdictOf r) m a (w .0) (u .0) (f .0) says o′)
+                      (step-stopped (counts .workers) (firstFlag file) (good .few-workers) few-plain now inside n event event-inside (verdictOf r) S₀ Wr₀ Vr₀ Lg₀ S Wr Vr Lg S′ Wr′ Vr′ Lg′ (run .shows) stepped m a (w .0) (u .0) (f .0) o′);
+                }

@@ -9,10 +9,10 @@ use Rattle.late.proofs.clear_log.Statement.{statement}
 use Rattle.late.proofs.clear_log.Tie as tie
 
 abbrev Inv-loop : tie.InvT-loop
-Inv-loop log₀ fields w f₀ log f = (f ≤ fields) × (length log ≡ length log₀) × (log ≡ cleared log₀ (w .0) f)
+Inv-loop log₀ plain w f₀ log f = (f ≤ plain) × (length log ≡ length log₀) × (log ≡ cleared log₀ (w .0) f)
 
 abbrev μ-loop : tie.MeasureT-loop
-μ-loop log₀ fields w f₀ log f = fields - f
+μ-loop log₀ plain w f₀ log f = plain - f
 
 loop-holds : tie.Need-loop-holds Inv-loop μ-loop
 loop-holds c = search (needs, cleared-none)
