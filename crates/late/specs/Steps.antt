@@ -1,5 +1,5 @@
--- One step of the late finder by the words alone, whatever they are. W is the worker count and F the number of plain fields; S, Wr, Vr and
--- Lg are the stretch, writer, version and log words.
+-- One step of the late finder by the words alone, whatever they are. W is the worker count and F how many fields the walks are over, the
+-- plain ones; S, Wr, Vr and Lg are the stretch, writer, version and log words.
 use mathlib.Core.Path.{_≡_}
 use mathlib.Core.Bool.{Bool, cond}
 use mathlib.Core.List.{List, [], _∷_}
