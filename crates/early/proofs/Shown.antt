@@ -18,6 +18,7 @@ use Rattle.events.proofs.Search.{lowest-ext}
 use Rattle.events.proofs.Histories.{ActWithin, ActsWithin, No}
 use Rattle.events.proofs.Stretches.{unused-read}
 use Rattle.events.proofs.Words.{has-read}
+use Rattle.events.proofs.Walks.{first-ext}
 use Rattle.tables.specs.Lent.{Shown, cells, filled}
 use Rattle.tables.specs.Steps.{isOpen, writerBy, stretchWith, writerWith, stretchAfter, writerAfter}
 use Rattle.tables.proofs.Lent.{shown-set, shown-cell, eqb-cell}
@@ -62,9 +63,7 @@ module _ (W : ℕ) (few : W ≤ 16) (S₀ Wr₀ Rd₀ : List ℕ) where
 
       pub meets-shown : (e : List Act) → ActsWithin W 512 e
           → firstOf (earlyBy (writerBy W S Wr) (readerBy W S Rd) n) e ≡ firstOf (earlyLook h n) e
-      unfolding firstOf
-      meets-shown [] i = refl
-      meets-shown (a ∷ more) i = rw (act-shown a (i .0), meets-shown more (i .1))
+      meets-shown = first-ext (earlyBy (writerBy W S Wr) (readerBy W S Rd) n) (earlyLook h n) W 512 act-shown
 
     readers-with : (a : Act) → ActWithin W 512 a → Shown 8192 (cells (readersWord (a ∷ h))) Rd₀ (readersWith S Rd a)
     unfolding readersWith readersWord

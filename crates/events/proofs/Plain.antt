@@ -8,9 +8,9 @@ use borrow.Author.Tests.{ne-eqb}
 use Rattle.events.specs.declared.Event.{Event}
 use Rattle.events.specs.Acts.{Act, History, Within, recordingOf, reads, writes, crosses}
 use Rattle.events.specs.Stretches.{staleRead}
-use Rattle.events.specs.Verdicts.{firstOf, staleField, lateLook, endBy, lateVerdict}
+use Rattle.events.specs.Verdicts.{staleField, lateLook, endBy, lateVerdict}
 use Rattle.events.proofs.Search.{lowest-shorter}
-use Rattle.events.proofs.Histories.{ActsWithin, recording-sound}
+use Rattle.events.proofs.Histories.{ActWithin, ActsWithin, recording-sound}
 use Rattle.events.proofs.Late.{end-ext}
 use Rattle.events.proofs.Walks.{walk-ext}
 
@@ -28,20 +28,15 @@ module _ (W F P : ℕ) (some : P ≤ F) where
     stale-plain : (w : ℕ) → staleField P h w ≡ staleField F h w
     stale-plain w = lowest-shorter (staleRead h w) 0 P F some (λ f a b. unused-stale W P h inside w f (omega arith))
 
-    look-plain : (n : ℕ) (a : Act) → lateLook P h n a ≡ lateLook F h n a
-    look-plain n (reads w f) = refl
-    look-plain n (writes w f) = refl
-    look-plain n (crosses w) = rw (stale-plain w)
-
-    event-plain : (n : ℕ) (e : List Act) → firstOf (lateLook P h n) e ≡ firstOf (lateLook F h n) e
-    unfolding firstOf
-    event-plain n [] = refl
-    event-plain n (a ∷ more) = rw (look-plain n a, event-plain n more)
+    look-plain : (n : ℕ) (a : Act) → ActWithin W P a → lateLook P h n a ≡ lateLook F h n a
+    look-plain n (reads w f) i = refl
+    look-plain n (writes w f) i = refl
+    look-plain n (crosses w) i = rw (stale-plain w)
 
     end-plain : (n : ℕ) → endBy (staleField P h) n 0 W ≡ endBy (staleField F h) n 0 W
     end-plain n = end-ext (staleField P h) (staleField F h) n 0 W (λ u _. stale-plain u)
 
   pub late-plain : (es : List Event) → Within W F es → lateVerdict W P P es ≡ lateVerdict W F P es
   late-plain es within =
-      walk-ext (lateLook P) (lateLook F) (λ h n. endBy (staleField P h) n 0 W) (λ h n. endBy (staleField F h) n 0 W) W P event-plain end-plain
+      walk-ext (lateLook P) (lateLook F) (λ h n. endBy (staleField P h) n 0 W) (λ h n. endBy (staleField F h) n 0 W) W P look-plain end-plain
       [] tt 0 (recordingOf P es) (recording-sound P W F P (λ f l _. l) es within)

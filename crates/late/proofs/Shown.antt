@@ -25,6 +25,7 @@ use Rattle.events.proofs.Words.{has-written}
 use Rattle.events.proofs.Unused.{unused-log}
 use Rattle.events.proofs.Stale.{wrote-last, stale-by-words}
 use Rattle.events.proofs.Late.{end-ext}
+use Rattle.events.proofs.Walks.{first-ext}
 use Rattle.tables.specs.Lent.{cells, filled, Shown}
 use Rattle.tables.specs.Steps.{writerBy, stretchWith, stretchAfter, writerWith, writerAfter}
 use Rattle.tables.proofs.Lent.{shown-length, shown-same, shown-set, shown-cell, eqb-cell}
@@ -160,9 +161,8 @@ module _ (W F : ℕ) (few : W ≤ 16) (fit : F ≤ 512) (S₀ Wr₀ Vr₀ Lg₀ 
 
     -- what an event meets by the words, and what is said after the last one
     pub meets-shown : (n : ℕ) (e : List Act) → ActsWithin W F e → lateMeets W F S Wr Vr Lg n e ≡ firstOf (lateLook F h n) e
-    unfolding lateMeets firstOf
-    meets-shown n [] i = refl
-    meets-shown n (a ∷ more) i = rw (look-shown n a (i .0), meets-shown n more (i .1))
+    unfolding lateMeets
+    meets-shown n = first-ext (lateBy (writerBy W S Wr) (staleFieldBy F Lg Vr Wr) n) (lateLook F h n) W F (look-shown n)
 
     pub end-shown : (n : ℕ) → endBy (staleFieldBy F Lg Vr Wr) n 0 W ≡ endBy (staleField F h) n 0 W
     end-shown n = end-ext (staleFieldBy F Lg Vr Wr) (staleField F h) n 0 W (λ w l. stale-field-shown w (omega arith))
