@@ -26,6 +26,16 @@ abbrev pub ActsWithin : ℕ → ℕ → List Act → Type 0
 ActsWithin W F [] = Unit {0}
 ActsWithin W F (a ∷ more) = ActWithin W F a × ActsWithin W F more
 
+-- more fields do no harm
+pub act-wider : (W F G : ℕ) → F ≤ G → (a : Act) → ActWithin W F a → ActWithin W G a
+act-wider W F G l (reads w f) i = (i .0, omega arith)
+act-wider W F G l (writes w f) i = (i .0, omega arith)
+act-wider W F G l (crosses w) i = i
+
+pub acts-wider : (W F G : ℕ) → F ≤ G → (acts : List Act) → ActsWithin W F acts → ActsWithin W G acts
+acts-wider W F G l [] i = tt
+acts-wider W F G l (a ∷ more) i = (act-wider W F G l a (i .0), acts-wider W F G l more (i .1))
+
 -- all acts are w's
 abbrev pub ActsOf : ℕ → List Act → Type 0
 ActsOf w [] = Unit {0}

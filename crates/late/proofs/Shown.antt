@@ -19,7 +19,7 @@ use Rattle.events.specs.Words.{stretchWord, writerWord, versionWord, once, logW
 use Rattle.events.specs.Verdicts.{Verdict, accepted, reported, firstOf, otherWriter, staleField, lateBy, lateLook, endBy}
 use Rattle.events.proofs.Tests.{bool, same}
 use Rattle.events.proofs.Search.{lowest-ext}
-use Rattle.events.proofs.Histories.{ActWithin, ActsWithin, deed-wider, event-short, before-next, No}
+use Rattle.events.proofs.Histories.{ActWithin, ActsWithin, act-wider, acts-wider, deed-wider, event-short, before-next, No}
 use Rattle.events.proofs.Stretches.{stretch-low}
 use Rattle.events.proofs.Words.{has-written}
 use Rattle.events.proofs.Unused.{unused-log}
@@ -34,16 +34,6 @@ use Rattle.stale.specs.Stale.{staleWords, staleFieldBy}
 use Rattle.late.specs.Steps.{lateMeets, wroteBy, versionWith, versionAfter, logRead, logWith, logAfter, Sized, Room, Stepped}
 use Rattle.late.specs.Runs.{Shows}
 use Rattle.late.proofs.Columns.{shown-cleared}
-
--- with fewer fields, acts are also within more
-act-wider : (W F G : ℕ) → F ≤ G → (a : Act) → ActWithin W F a → ActWithin W G a
-act-wider W F G l (reads w f) i = (i .0, omega arith)
-act-wider W F G l (writes w f) i = (i .0, omega arith)
-act-wider W F G l (crosses w) i = i
-
-wider : (W F G : ℕ) → F ≤ G → (acts : List Act) → ActsWithin W F acts → ActsWithin W G acts
-wider W F G l [] i = tt
-wider W F G l (a ∷ more) i = (act-wider W F G l a (i .0), wider W F G l more (i .1))
 
 -- what no act has done, none had done before
 calm-so-far : (h : History) (e : List Act) → No OnWritten (entered h e) → No OnWritten h
@@ -131,7 +121,7 @@ module _ (W F : ℕ) (few : W ≤ 16) (fit : F ≤ 512) (S₀ Wr₀ Vr₀ Lg₀ 
         → Shows W (a ∷ h) S₀ Wr₀ Vr₀ Lg₀ (stretchWith S a) (writerWith S Wr a) (versionWith S Wr Vr a) (logWith F S Wr Vr Lg a)
     shows-with a i = record {
       stretch = stretch-with W few h S₀ S (shows .stretch) a (act-wider W F 512 fit a i);
-      writer = writer-with W few h S₀ S (shows .stretch) (wider W F 512 fit h inside) Wr₀ Wr (shows .writer) a (act-wider W F 512 fit a i);
+      writer = writer-with W few h S₀ S (shows .stretch) (acts-wider W F 512 fit h inside) Wr₀ Wr (shows .writer) a (act-wider W F 512 fit a i);
       version = version-with a i;
       log = log-with a i;
     }
@@ -152,7 +142,7 @@ module _ (W F : ℕ) (few : W ≤ 16) (fit : F ≤ 512) (S₀ Wr₀ Vr₀ Lg₀ 
 
     other-shown : (w f : ℕ) → f < F → writerBy W S Wr w f ≡ otherWriter h w f
     other-shown w f b =
-        writer-shown W few h S₀ S (shows .stretch) (wider W F 512 fit h inside) Wr₀ Wr (shows .writer) calm w f (omega arith)
+        writer-shown W few h S₀ S (shows .stretch) (acts-wider W F 512 fit h inside) Wr₀ Wr (shows .writer) calm w f (omega arith)
 
     look-shown : (n : ℕ) (a : Act) → ActWithin W F a → lateBy (writerBy W S Wr) (staleFieldBy F Lg Vr Wr) n a ≡ lateLook F h n a
     look-shown n (reads w f) i = rw (other-shown w f (i .1))
