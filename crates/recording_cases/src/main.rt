@@ -118,23 +118,17 @@ fn put(file: &mut [u8], i: usize, n: usize)
     file[i + 1] = (n / 256 % 256) as u8;
 }
 
-// A section of so many labels, each its own number.
-fn put_labels(file: &mut [u8], at: usize, count: usize)
-    requires { ⌜ (at ≤ 2000) × (count ≤ 2000) ⌝ }
+// A section of so many items after its count, each of so many bytes. The first begins with this number, and from each to the next it rises.
+fn put_section(file: &mut [u8], at: usize, count: usize, bytes: usize, first: usize, rise: usize)
+    requires { ⌜ (at ≤ 2000) × (count ≤ 20000) × (bytes ≤ 4) × (first ≤ 1) × (rise ≤ 1) ⌝ }
 {
     put(file, at, count);
-    for n in 0..count {
-        put(file, at + 2 + 2 * n, n);
-    }
-}
-
-// A section of so many reads by worker 0 of field 0.
-fn put_reads(file: &mut [u8], at: usize, count: usize)
-    requires { ⌜ (at ≤ 2000) × (count ≤ 20000) ⌝ }
-{
-    put(file, at, count);
-    for n in 0..count {
-        put(file, at + 2 + 4 * n, 1);
+    let mut place = at + 2;
+    let mut number = first;
+    for _ in 0..count {
+        put(file, place, number);
+        place += bytes;
+        number += rise;
     }
 }
 
@@ -145,14 +139,15 @@ fn start(name: &[u8], file: &[u8], size: usize) {
     }
 }
 
-// A file of so many workers, fields and reads, of which the first bytes are checked.
+// A file of so many workers, fields and reads, of which the first bytes are checked. Each label is its own number, and each read is
+// worker 0's of field 0.
 fn built(name: &[u8], workers: usize, fields: usize, events: usize, size: usize)
     requires { ⌜ (workers ≤ 16) × (fields ≤ 512) × (events ≤ 20000) ⌝ }
 {
     let mut file = [0u8; 65536];
-    put_labels(&mut file, 0, workers);
-    put_labels(&mut file, 2 + 2 * workers, fields);
-    put_reads(&mut file, 4 + 2 * workers + 2 * fields, events);
+    put_section(&mut file, 0, workers, 2, 0, 1);
+    put_section(&mut file, 2 + 2 * workers, fields, 2, 0, 1);
+    put_section(&mut file, 4 + 2 * workers + 2 * fields, events, 4, 1, 0);
     start(name, &file, size);
 }
 
