@@ -1,4 +1,6 @@
 // The program: reads a recording from standard input, and prints its counts and what both finders say of it.
+#![tactic(auto)]
+
 ghost use Rattle.std.specs.Prelude.{◌≡◌, true};
 ghost use Rattle.recording.specs.File.{refusal};
 ghost use Rattle.tables.specs.Answers.{said_by};

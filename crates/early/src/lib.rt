@@ -1,4 +1,6 @@
 // The early finder (FastRCD): at each access it looks whether another worker's open stretch has touched the field.
+#![tactic(auto)]
+
 ghost use Rattle.std.specs.Prelude.{◌≡◌, ◌+◌, ◌*◌, ◌<◌, ◌≤◌, min, [], length, get_or, set};
 ghost use Rattle.events.specs.Acts.{DeedWithin};
 ghost use Rattle.recording.specs.File.{Accepted};

@@ -144,6 +144,7 @@ No Such (a ∷ h) = (Such h a → ⊥) × No Such h
 -- What an act meets does not depend on its own worker's acts. So an event's acts that are calm together are calm one after another.
 module _ (Such : History → Act → Type 0) (own : (h : History) (a b : Act) → worker_of b ≡ worker_of a → Such (a ∷ h) b → Such h b) where
   back : (h : History) (a : Act) (more : List Act) → ActsOf (worker_of a) more → Some (Such (a ∷ h)) more → Some (Such h) more
+  back h a [] o s = elim s [ ]
   back h a (b ∷ more) o (here s) = here (own h a b o.0 s)
   back h a (b ∷ more) o (later s) = later (back h a more o.1 s)
 

@@ -1,11 +1,13 @@
 // The events of a recording, and what each does. What the papers say of them is in specs/, what follows from that in proofs/.
+#![tactic(auto)]
+
 ghost use Rattle.std.specs.Prelude.{◌≡◌};
 ghost use Rattle.events.specs.Acts.{access_does, deed_of};
 
 use sorts::{Field, Worker};
 
 // What one worker did, in the one order of the recording.
-#[derive(Drop)]
+#[derive(Clone, Copy)]
 pub enum Event {
     // The worker reads the field.
     Read(Worker, Field),
@@ -21,7 +23,7 @@ impl Event {
 }
 
 // What an event does, once flags are told from plain fields.
-#[derive(Drop)]
+#[derive(Clone, Copy)]
 pub enum Deed {
     Reads(Worker, Field),
     Writes(Worker, Field),

@@ -1,4 +1,6 @@
 // Which fields of a recording are flags: those from one number on. Whoever asks for that number needs nothing else of labels.
+#![tactic(auto)]
+
 ghost use Rattle.std.specs.Prelude.{◌≡◌};
 ghost use Rattle.recording.specs.File.{field_label};
 ghost use Rattle.flags.specs.Flags.{flags_from};

@@ -1,10 +1,12 @@
 // Standard input, read into a lent buffer to the input's end or the buffer's.
+#![tactic(auto)]
+
 ghost use Rattle.input.specs.Reading.{ReadInto};
 
 use libc::STDIN_FILENO;
 
 // What reading gave.
-#[derive(Drop)]
+#[derive(Clone, Copy)]
 pub enum Input {
     // So many bytes, at the start of the buffer.
     Bytes(usize),

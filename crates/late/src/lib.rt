@@ -1,5 +1,7 @@
 // The late finder: it counts the stretches that write a field, logs the version that a stretch has read, and looks at the log when a
 // stretch closes.
+#![tactic(auto)]
+
 ghost use Rattle.std.specs.Prelude.{◌≡◌, ◌+◌, ◌<◌, ◌≤◌, [], length, get_or, set};
 ghost use Rattle.sorts.specs.Words.{joined};
 ghost use Rattle.events.specs.Acts.{acts_of, writes};

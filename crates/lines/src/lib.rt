@@ -1,4 +1,6 @@
 // The printed lines, formed in a lent buffer: each function puts its bytes at a place, leaves all others, and answers the next place.
+#![tactic(auto)]
+
 ghost use Rattle.std.specs.Prelude.{[], ◌∷◌, ◌++◌, ◌+◌, ◌≤◌, length};
 ghost use Rattle.recording.specs.File.{worker_label, field_label};
 ghost use Rattle.events.specs.Verdicts.{reported};

@@ -1,4 +1,6 @@
 // The library as a Rust or C program links it: the finders and the writer on plain slices, their answers as rows of six numbers.
+#![tactic(auto)]
+
 ghost use Rattle.std.specs.Prelude.{◌≡◌};
 ghost use Rattle.tables.specs.Answers.{said_by};
 ghost use Rattle.writing.specs.Writing.{rows_given};

@@ -1,4 +1,6 @@
 // The program: reads lines of document 01's notation from standard input, and writes the recording file to standard output.
+#![tactic(auto)]
+
 ghost use Rattle.spelling.specs.Notation.{said};
 ghost use Rattle.notation.specs.Program.{Makes};
 
@@ -8,7 +10,7 @@ use spelling::Notation;
 use writing::Written;
 
 // What a text makes: a bad word begins at a place, or the writer refuses the rows, or so many bytes of a file.
-#[derive(Drop)]
+#[derive(Clone, Copy)]
 enum Made {
     Bad(usize),
     // Number and place.

@@ -1,4 +1,6 @@
 // The file of a recording: bytes to labels and events, refused by the first test that fails.
+#![tactic(auto)]
+
 pub mod event;
 mod numbers;
 mod sections;
@@ -10,7 +12,7 @@ use events::Event;
 use sorts::{Field, Worker};
 
 // What a test of the file answers.
-#[derive(Drop)]
+#[derive(Clone, Copy)]
 pub enum Fault {
     Fine,
     // Number and place.
@@ -18,7 +20,7 @@ pub enum Fault {
 }
 
 // An event as the file gives it: three numbers, not tested yet.
-#[derive(Drop)]
+#[derive(Clone, Copy)]
 pub struct Entry {
     pub kind: u32,
     pub worker: u32,
@@ -31,7 +33,7 @@ impl Entry {
 }
 
 // How many workers, fields and events a file has.
-#[derive(Drop)]
+#[derive(Clone, Copy)]
 pub struct Counts {
     pub workers: u32,
     pub fields: u32,
@@ -39,14 +41,14 @@ pub struct Counts {
 }
 
 // The answer to a file: refused by number and place, or fine.
-#[derive(Drop)]
+#[derive(Clone, Copy)]
 pub enum Checked {
     Refused(u32, usize),
     Fine(Counts),
 }
 
 // The answer to one section: refused, or fine with its count.
-#[derive(Drop)]
+#[derive(Clone, Copy)]
 enum Counted {
     Refused(u32, usize),
     Count(u32),
@@ -108,7 +110,7 @@ pub fn field_label(file: &[u8], f: Field) -> u32
 }
 
 // What a reader hands out.
-#[derive(Drop)]
+#[derive(Clone, Copy)]
 pub enum Step {
     // An event, and the place of the next.
     Next(Event, usize),
@@ -137,7 +139,7 @@ pub fn step_at(file: &[u8], at: usize) -> Step
 }
 
 // A reader stands over the lent file and hands out one event at a time: the file, its counts and the place of the next event.
-#[derive(Drop)]
+#[derive(Clone, Copy)]
 pub struct Reader<'a> {
     pub file: &'a [u8],
     pub workers: u32,

@@ -1,4 +1,6 @@
 // The edges of a recording file, each a case by name. What the check answers is printed, and held to the file stdout.
+#![tactic(auto)]
+
 ghost use Rattle.std.specs.Prelude.{◌≤◌};
 ghost use Rattle.recording.specs.File.{Accepted};
 

@@ -1,22 +1,24 @@
 // The four sorts of number of the papers, each with its limit, and a writer word joined and parted.
 // They are four types, so that no operation takes one for another.
+#![tactic(auto)]
+
 ghost use Rattle.std.specs.Prelude.{◌≡◌, ◌<◌};
 ghost use Rattle.sorts.specs.Words.{joined, stretch_in, worker_in};
 
 // A worker's number, counted from 0: the papers' thread.
-#[derive(Drop)]
+#[derive(Clone, Copy)]
 pub struct Worker(pub u32);
 
 // A field's number, counted from 0: the papers' variable.
-#[derive(Drop)]
+#[derive(Clone, Copy)]
 pub struct Field(pub u32);
 
 // A stretch's number within its worker, counted from 1: the papers' clock.
-#[derive(Drop)]
+#[derive(Clone, Copy)]
 pub struct Stretch(pub u32);
 
 // How many stretches have written a field.
-#[derive(Drop)]
+#[derive(Clone, Copy)]
 pub struct Version(pub u32);
 
 impl Worker {
@@ -30,7 +32,7 @@ impl Field {
 }
 
 // A stretch and the worker whose stretch it is: the papers' epoch.
-#[derive(Drop)]
+#[derive(Clone, Copy)]
 pub struct Epoch {
     pub stretch: Stretch,
     pub worker: Worker,

@@ -1,4 +1,6 @@
 // The notation of document 01 as text: what its words are, and a text read into lent rows, one pass for each row.
+#![tactic(auto)]
+
 ghost use Rattle.std.specs.Prelude.{◌≡◌, ◌≤◌, length, take};
 ghost use Rattle.writing.specs.Writing.{rows_given};
 ghost use Rattle.spelling.specs.Notation.{same, number_of, dot_in, event_by, access_of, event_of, entry_under, word_under, blank_at, heading_after, value_of, values_in, words, judged};
@@ -7,14 +9,14 @@ ghost use Rattle.spelling.specs.Passes.{step_at, Stores, Holds, Reads};
 use recording::Entry;
 
 // A decimal number, where a word is one.
-#[derive(Drop)]
+#[derive(Clone, Copy)]
 enum Number {
     Of(u32),
     Missing,
 }
 
 // What the words after a heading are.
-#[derive(Drop)]
+#[derive(Clone, Copy)]
 enum Heading {
     // Before the first heading no word has a meaning.
     Before,
@@ -23,7 +25,7 @@ enum Heading {
     Events,
 }
 
-#[derive(Drop)]
+#[derive(Clone, Copy)]
 enum Word {
     // No word ends here.
     NoWord,
@@ -170,7 +172,7 @@ fn word_under(heading: Heading, word: &[u8]) -> Word
 pub const MOST: usize = 262144;
 
 // The five rows of a recording.
-#[derive(Drop)]
+#[derive(Clone, Copy)]
 enum Part {
     WorkerLabels,
     FieldLabels,
@@ -180,14 +182,14 @@ enum Part {
 }
 
 // Whether a text is notation, and else where its first bad word begins.
-#[derive(Drop)]
+#[derive(Clone, Copy)]
 enum Judged {
     Fine,
     BadAt(usize),
 }
 
 // How many entries stand in the rows.
-#[derive(Drop)]
+#[derive(Clone, Copy)]
 pub struct Lengths {
     pub workers: usize,
     pub fields: usize,
@@ -195,7 +197,7 @@ pub struct Lengths {
 }
 
 // What reading a text gave: nothing, since a bad word begins at a place, or rows of these lengths.
-#[derive(Drop)]
+#[derive(Clone, Copy)]
 pub enum Notation {
     Bad(usize),
     Rows(Lengths),
@@ -203,7 +205,7 @@ pub enum Notation {
 
 // Where a pass over a text has come to: the word that ends before the present byte, the heading after it, and where the next word begins
 // at the earliest.
-#[derive(Drop)]
+#[derive(Clone, Copy)]
 struct Step {
     word: Word,
     heading: Heading,

@@ -1,5 +1,7 @@
 // The stale reads that the late finder looks for: a read of a worker's open stretch, where another worker has written the field since.
 // They are told by the version, log and writer words alone, whatever these are.
+#![tactic(auto)]
+
 ghost use Rattle.std.specs.Prelude.{◌≡◌, ◌<◌, ◌≤◌, length};
 ghost use Rattle.events.specs.Words.{stale_by_words};
 ghost use Rattle.events.specs.Verdicts.{stale_by, end_by};
@@ -10,7 +12,7 @@ use sorts::{Epoch, Field, Version, Worker};
 use tables::Verdict;
 
 // What a search for a stale read finds.
-#[derive(Drop)]
+#[derive(Clone, Copy)]
 enum Stale {
     // The worker whose open stretch has read the field, and the field.
     At(Worker, Field),

@@ -1,5 +1,7 @@
 // The subject of the comparison under tests/: it answers a stream of requests, to the finders and to the writer, with the answers and every
 // word and byte of what it lent. tests/reference/README.md has the protocol.
+#![tactic(auto)]
+
 ghost use Rattle.std.specs.Prelude.{◌≡◌, length};
 
 use libc::STDIN_FILENO;

@@ -9,7 +9,7 @@ use sorts::{Field, Worker};
 use writing::Written;
 
 // How long the five rows are; they stand one after another.
-#[derive(Drop)]
+#[derive(Clone, Copy)]
 pub struct Lengths {
     pub worker_labels: usize,
     pub field_labels: usize,

@@ -1,5 +1,7 @@
 // The tables lent to the finders: the stretch and writer words that both keep, and what they say of open stretches.
 // Everything here goes by the words alone, whatever they are.
+#![tactic(auto)]
+
 ghost use Rattle.std.specs.Prelude.{◌≡◌, ◌+◌, ◌*◌, ◌<◌, ◌≤◌, length, get_or, set};
 ghost use Rattle.sorts.specs.Words.{joined};
 ghost use Rattle.tables.specs.Answers.{found_of, verdict_of, judged, said_by};
@@ -24,14 +26,14 @@ pub fn place(w: Worker, f: Field) -> usize
 }
 
 // What a search for another worker finds.
-#[derive(Drop)]
+#[derive(Clone, Copy)]
 pub enum Other {
     Worker(Worker),
     Nobody,
 }
 
 // What is said of a recording that is well-formed.
-#[derive(Drop)]
+#[derive(Clone, Copy)]
 pub enum Verdict {
     Accepted,
     // Event, sort, worker, other worker, field.
@@ -39,7 +41,7 @@ pub enum Verdict {
 }
 
 // A finder's answer to any file and any tables.
-#[derive(Drop)]
+#[derive(Clone, Copy)]
 pub enum Answer {
     // Number and place.
     Refused(u32, usize),

@@ -1,4 +1,6 @@
 // The writer: rows of labels and events to the file of a recording, refused by the first test that fails.
+#![tactic(auto)]
+
 mod put;
 mod rows;
 
@@ -7,7 +9,7 @@ ghost use Rattle.writing.specs.Writing.{rows_given, Writes};
 use recording::{Entry, Fault};
 
 // The answer to rows that are to be written: refused by number and place, or so many bytes written.
-#[derive(Drop)]
+#[derive(Clone, Copy)]
 pub enum Written {
     Refused(u32, usize),
     Bytes(usize),
