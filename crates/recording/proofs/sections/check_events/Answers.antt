@@ -1,0 +1,13 @@
+-- `check_events` answers as the events and the end of the file do: one law for each way out.
+use Rattle.recording.proofs.Answers.{to_end_refused, bytes_after, to_end_fine}
+use Rattle.std.proofs.Common.{rules}
+use Rattle.recording.proofs.sections.check_events.Goals as goal
+
+pub returns-then-last-file : goal.returns-then-last-file
+returns-then-last-file c = search (rules, bytes_after)
+
+pub returns-in-Refused : goal.returns-in-Refused
+returns-in-Refused c = search (rules, to_end_refused)
+
+pub returns-else-last-file : goal.returns-else-last-file
+returns-else-last-file c = search (rules, to_end_fine)
