@@ -1,0 +1,19 @@
+-- `early::run` meets its contract: before event n the tables show the events before n, and what is left says what the whole says.
+use Rattle.early.proofs.Runs.{run_start, run_room, run_next, run_stop, run_end}
+use Rattle.std.proofs.Common.{rules}
+use Rattle.early.proofs.run.Goals as goal
+
+pub loop-n-init : goal.loop-n-init
+loop-n-init c = search (rules, run_start)
+
+pub step-r-requires : goal.step-r-requires
+step-r-requires c = search (rules, run_room)
+
+pub returns-in-Reported : goal.returns-in-Reported
+returns-in-Reported c = search (rules, run_stop)
+
+pub loop-n-preserved : goal.loop-n-preserved
+loop-n-preserved c = search (rules, run_next)
+
+pub returns : goal.returns
+returns c = search (rules, run_end)
