@@ -1,0 +1,7 @@
+-- `events` puts a count and its events.
+use Rattle.writing.proofs.Bytes.{section_put}
+use Rattle.std.proofs.Common.{rules}
+use Rattle.writing.proofs.put.events.Goals as goal
+
+pub returns : goal.returns
+returns c = search (rules, section_put)
