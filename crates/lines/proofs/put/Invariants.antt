@@ -1,0 +1,9 @@
+-- `put` copies the text byte by byte.
+use mathlib.Core.Path.{◌≡◌}
+use Prim.Native.Nat.{◌-◌, ◌≤◌}
+use lib.ListN.{length}
+use Rattle.lines.proofs.Text.{copied, copied_none, copied_more, copied_all}
+use Rattle.lines.proofs.put.Given as goal
+
+abbrev pub invariant-loop-i : goal.invariant-loop-i
+invariant-loop-i l = l.out ≡ copied l.initial.out l.at l.text l.i
