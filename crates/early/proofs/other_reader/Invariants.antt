@@ -1,11 +1,8 @@
 -- `early::other_reader` meets its contract: what is left of the search answers as the whole does, and the whole as one of sixteen workers.
-use Prim.Native.Nat.{◌-◌, ◌≤◌}
+use Prim.Native.Nat.{◌-◌}
 use mathlib.Core.Path.{◌≡◌}
-use native.Mathlib.Nat.{sub-zero}
 use Rattle.events.specs.Search.{lowest}
-use Rattle.events.proofs.Search.{search_hit, search_next, search_end}
 use Rattle.early.specs.Steps.{reader_open}
-use Rattle.early.proofs.Laws.{readers_existing}
 use Rattle.early.proofs.other_reader.Given as goal
 
 abbrev pub invariant-loop-u : goal.invariant-loop-u

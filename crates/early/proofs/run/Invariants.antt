@@ -1,6 +1,5 @@
 -- `early::run` meets its contract: before event n the tables show the events before n, and what is left says what the whole says.
-use Prim.Native.Nat.{◌-◌}
-use Rattle.early.proofs.Runs.{Running, run_start, run_room, run_next, run_stop, run_end}
+use Rattle.early.proofs.Runs.{Running}
 use Rattle.early.proofs.run.Given as goal
 
 abbrev pub invariant-loop-n : goal.invariant-loop-n

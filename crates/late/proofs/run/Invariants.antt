@@ -1,6 +1,5 @@
 -- `late::run` meets its contract: before event n the tables show the events before n, and what is left says what the whole says.
-use Prim.Native.Nat.{◌-◌}
-use Rattle.late.proofs.Runs.{Running, run_start, run_room, run_next, run_stop, run_end, end_workers, end_fields, end_writer, end_version, end_log}
+use Rattle.late.proofs.Runs.{Running}
 use Rattle.late.proofs.run.Given as goal
 
 abbrev pub invariant-loop-n : goal.invariant-loop-n

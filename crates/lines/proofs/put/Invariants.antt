@@ -1,8 +1,6 @@
 -- `put` copies the text byte by byte.
 use mathlib.Core.Path.{◌≡◌}
-use Prim.Native.Nat.{◌-◌, ◌≤◌}
-use lib.ListN.{length}
-use Rattle.lines.proofs.Text.{copied, copied_none, copied_more, copied_all}
+use Rattle.lines.proofs.Text.{copied}
 use Rattle.lines.proofs.put.Given as goal
 
 abbrev pub invariant-loop-i : goal.invariant-loop-i

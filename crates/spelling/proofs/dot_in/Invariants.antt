@@ -1,9 +1,8 @@
 -- `dot_in` passes the bytes before the first dot.
 use mathlib.Core.Path.{◌≡◌}
-use Prim.Native.Nat.{◌+◌, ◌-◌, ◌≤◌}
-use lib.ListN.{length}
+use Prim.Native.Nat.{◌+◌}
 use Rattle.spelling.specs.Notation.{dot_in}
-use Rattle.spelling.proofs.Spelling.{rest, dot_start, dot_hit, dot_next, dot_end}
+use Rattle.spelling.proofs.Spelling.{rest}
 use Rattle.spelling.proofs.dot_in.Given as goal
 
 abbrev pub invariant-loop-i : goal.invariant-loop-i

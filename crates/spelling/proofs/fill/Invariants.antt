@@ -1,10 +1,10 @@
 -- `fill` goes over the text once: what the words so far have given stands in the row.
 use mathlib.Core.Path.{◌≡◌}
-use Prim.Native.Nat.{◌+◌, ◌-◌, ◌≤◌}
+use Prim.Native.Nat.{◌+◌, ◌≤◌}
 use lib.ListN.{length, take}
 use Rattle.spelling.specs.Notation.{words, values_in}
 use Rattle.spelling.proofs.Passing.{values_from}
-use Rattle.spelling.proofs.Filling.{Held, held_start, held_next, held_end}
+use Rattle.spelling.proofs.Filling.{Held}
 use Rattle.spelling.proofs.fill.Given as goal
 
 abbrev pub invariant-loop-i : goal.invariant-loop-i

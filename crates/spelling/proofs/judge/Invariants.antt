@@ -1,9 +1,9 @@
 -- `judge` goes over the text once, up to the first bad word.
 use mathlib.Core.Path.{◌≡◌}
-use Prim.Native.Nat.{◌+◌, ◌-◌, ◌≤◌}
+use Prim.Native.Nat.{◌+◌, ◌≤◌}
 use lib.ListN.{length}
 use Rattle.spelling.specs.Notation.{judged}
-use Rattle.spelling.proofs.Passing.{bad_from, judged_long, judged_start, judged_bad, judged_next, judged_end}
+use Rattle.spelling.proofs.Passing.{bad_from}
 use Rattle.spelling.proofs.judge.Given as goal
 
 abbrev pub invariant-loop-i : goal.invariant-loop-i

@@ -1,9 +1,9 @@
 -- `number_of` reads the digits from the left: with those that are left they make the word's number.
 use mathlib.Core.Path.{◌≡◌}
-use Prim.Native.Nat.{◌-◌, ◌≤◌}
+use Prim.Native.Nat.{◌≤◌}
 use lib.ListN.{length}
 use Rattle.spelling.specs.Notation.{number_after, number_of}
-use Rattle.spelling.proofs.Spelling.{rest, Digits, no_digits, digit_fits, digit_more, number_none, number_long, number_start, number_below, number_above, number_next, number_end}
+use Rattle.spelling.proofs.Spelling.{rest, Digits}
 use Rattle.spelling.proofs.number_of.Given as goal
 
 abbrev pub invariant-loop-i : goal.invariant-loop-i

@@ -1,9 +1,8 @@
 -- `same` compares the bytes one by one: what is left of both is the same exactly if all is.
 use mathlib.Core.Path.{◌≡◌}
-use Prim.Native.Nat.{◌-◌, ◌≤◌}
 use lib.ListN.{length}
 use Rattle.spelling.specs.Notation.{same}
-use Rattle.spelling.proofs.Spelling.{rest, same_short, same_start, same_differ, same_next, same_end}
+use Rattle.spelling.proofs.Spelling.{rest}
 use Rattle.spelling.proofs.same.Given as goal
 
 abbrev pub invariant-loop-i : goal.invariant-loop-i

@@ -1,10 +1,9 @@
 -- `stale::first_stale` meets its contract: before worker w, and before its field f, what is left finds what the whole search finds.
 use mathlib.Core.Path.{◌≡◌}
 use Prim.Native.Nat.{◌-◌, ◌<◌, ◌≤◌}
-use native.Mathlib.Nat.{sub-zero}
 use Rattle.stale.specs.declared.Stale.TheVariants.{Nowhere}
 use Rattle.stale.specs.Stale.{first_stale}
-use Rattle.stale.proofs.Laws.{stale_from, search_worker, search_over, field_stale, field_fresh, fields_over}
+use Rattle.stale.proofs.Laws.{stale_from}
 use Rattle.stale.proofs.first_stale.Given as goal
 
 abbrev pub invariant-loop-f : goal.invariant-loop-f

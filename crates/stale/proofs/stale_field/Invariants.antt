@@ -1,8 +1,8 @@
 -- `stale::stale_field` meets its contract: before field f, what is left finds what the whole search finds.
 use mathlib.Core.Path.{◌≡◌}
-use Prim.Native.Nat.{◌+◌, ◌-◌, ◌≤◌}
+use Prim.Native.Nat.{◌+◌}
 use Rattle.stale.specs.Stale.{first_stale}
-use Rattle.stale.proofs.Laws.{stale_from, field_fresh, one_worker, one_worker_stale, one_worker_over}
+use Rattle.stale.proofs.Laws.{stale_from}
 use Rattle.stale.proofs.stale_field.Given as goal
 
 abbrev pub invariant-loop-f : goal.invariant-loop-f

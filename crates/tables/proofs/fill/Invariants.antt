@@ -1,9 +1,6 @@
 -- `tables::fill` meets its contract: before word i the table is filled up to i.
 use mathlib.Core.Path.{◌≡◌}
-use Prim.Native.Nat.{◌-◌, ◌≤◌}
-use lib.ListN.{length}
 use Rattle.tables.specs.Lent.{filled}
-use Rattle.tables.proofs.Lent.{filled_none, filled_more, filled_all}
 use Rattle.tables.proofs.fill.Given as goal
 
 abbrev pub invariant-loop-i : goal.invariant-loop-i

@@ -1,11 +1,9 @@
 -- `labels` answers as `rising` does: what is still to come answers the same at each turn.
 use mathlib.Core.Path.{◌≡◌}
 use Prim.Native.Nat.{◌+◌, ◌*◌, ◌-◌, ◌≤◌}
-use native.Mathlib.Nat.{sub-zero}
 use lib.ListN.{length}
 use Rattle.recording.specs.Tests.{rising}
 use Rattle.recording.specs.File.{label_at}
-use Rattle.recording.proofs.Answers.{label_first, label_next, labels_fall, labels_rise, labels_end}
 use Rattle.recording.proofs.sections.labels.Given as goal
 
 abbrev pub invariant-loop-n : goal.invariant-loop-n

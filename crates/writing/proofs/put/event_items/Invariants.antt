@@ -1,12 +1,10 @@
 -- `event_items` puts the events of three rows, one after another.
 use mathlib.Core.Path.{◌≡◌}
-use Prim.Native.Nat.{◌+◌, ◌*◌, ◌-◌, ◌≤◌}
+use Prim.Native.Nat.{◌+◌, ◌*◌, ◌≤◌}
 use lib.ListN.{length}
 use Rattle.byte_rows.specs.Buffer.{put}
 use Rattle.writing.specs.Writing.{items}
 use Rattle.writing.specs.Parts.{event_bytes_of, EntriesFit}
-use Rattle.writing.proofs.RowTests.{entry_of_lem}
-use Rattle.writing.proofs.Bytes.{none_put, event_next, all_put, entry_in_lem}
 use Rattle.writing.proofs.put.event_items.Given as goal
 
 abbrev pub invariant-loop-n : goal.invariant-loop-n

@@ -1,11 +1,10 @@
 -- `label_items` puts the labels of a row, one after another.
 use mathlib.Core.Path.{◌≡◌}
-use Prim.Native.Nat.{◌+◌, ◌*◌, ◌-◌, ◌≤◌}
+use Prim.Native.Nat.{◌+◌, ◌*◌, ◌≤◌}
 use lib.ListN.{length}
 use Rattle.byte_rows.specs.Buffer.{put}
 use Rattle.writing.specs.Writing.{items}
 use Rattle.writing.specs.Parts.{label_bytes, LabelsFit}
-use Rattle.writing.proofs.Bytes.{none_put, label_put, all_put, label_in}
 use Rattle.writing.proofs.put.label_items.Given as goal
 
 abbrev pub invariant-loop-n : goal.invariant-loop-n

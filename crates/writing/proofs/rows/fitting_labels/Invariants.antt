@@ -1,9 +1,8 @@
 -- `fitting_labels` counts the labels before the first that is no two-byte value.
 use mathlib.Core.Path.{◌≡◌}
-use Prim.Native.Nat.{◌+◌, ◌-◌, ◌≤◌}
+use Prim.Native.Nat.{◌+◌, ◌-◌}
 use lib.ListN.{length}
 use Rattle.writing.specs.Writing.{number_of, fitting}
-use Rattle.writing.proofs.RowTests.{number_of_lem, fits_first, fits_not, fits_next, fits_end}
 use Rattle.writing.proofs.rows.fitting_labels.Given as goal
 
 abbrev pub invariant-loop-n : goal.invariant-loop-n

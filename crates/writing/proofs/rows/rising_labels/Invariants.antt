@@ -1,12 +1,9 @@
 -- `rising_labels` answers as `rising` does: what is still to come answers the same at each turn.
 use mathlib.Core.Path.{◌≡◌}
 use Prim.Native.Nat.{◌+◌, ◌-◌, ◌≤◌}
-use native.Mathlib.Nat.{sub-zero}
 use lib.ListN.{length}
 use Rattle.recording.specs.Tests.{rising}
 use Rattle.writing.specs.Writing.{number_of}
-use Rattle.recording.proofs.Answers.{labels_fall, labels_rise, labels_end}
-use Rattle.writing.proofs.RowTests.{number_of_lem}
 use Rattle.writing.proofs.rows.rising_labels.Given as goal
 
 abbrev pub invariant-loop-n : goal.invariant-loop-n

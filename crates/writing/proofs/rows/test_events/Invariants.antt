@@ -1,13 +1,9 @@
 -- `test_events` answers as the events' tests do: what is still to come answers the same at each turn.
 use mathlib.Core.Path.{◌≡◌}
-use Prim.Native.Nat.{◌-◌, ◌<◌, ◌≤◌}
-use native.Mathlib.Nat.{sub-zero}
+use Prim.Native.Nat.{◌-◌, ◌≤◌}
 use lib.ListN.{length}
-use Rattle.recording.specs.Tests.{event_bytes, events_tests}
+use Rattle.recording.specs.Tests.{events_tests}
 use Rattle.writing.specs.Writing.{entry_of}
-use Rattle.recording.proofs.Tests.{event_byte}
-use Rattle.recording.proofs.Answers.{events_refused, events_next, events_end}
-use Rattle.writing.proofs.RowTests.{entry_of_lem}
 use Rattle.writing.proofs.rows.test_events.Given as goal
 
 abbrev pub invariant-loop-n : goal.invariant-loop-n
