@@ -1,9 +1,9 @@
-// Standard input, read into a lent buffer to the input's end or the buffer's.
+// Reading into a lent buffer, to the input's end or the buffer's.
 #![tactic(auto)]
 
 ghost use Rattle.input.specs.Reading.{ReadInto};
 
-use libc::STDIN_FILENO;
+use std::io::Read;
 
 // What reading gave.
 #[derive(Clone, Copy)]
@@ -14,22 +14,21 @@ pub enum Input {
 }
 
 // One read, which may bring only some of what is there, and nothing at the end.
-fn read_some(buffer: &mut [u8]) -> Input
+fn read_some<R: Read>(reader: &mut R, buffer: &mut [u8]) -> Input
     ensures { ReadInto buffer.new result }
 {
-    let got = libc::read(STDIN_FILENO, buffer);
-    if got < 0 {
-        return Input::Failed;
+    match reader.read(buffer) {
+        Ok(got) => Input::Bytes(got),
+        Err(_) => Input::Failed,
     }
-    Input::Bytes(io::count(got, buffer))
 }
 
-pub fn read(buffer: &mut [u8]) -> Input
+pub fn read<R: Read>(reader: &mut R, buffer: &mut [u8]) -> Input
     ensures { ReadInto buffer.new result }
 {
     let mut at = 0;
     while at < buffer.len() {
-        let Input::Bytes(more) = read_some(&mut buffer[at..]) else {
+        let Input::Bytes(more) = read_some(reader, &mut buffer[at..]) else {
             return Input::Failed;
         };
         if more == 0 {
