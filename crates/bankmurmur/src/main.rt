@@ -9,7 +9,6 @@ ghost use Rattle.lines.specs.Text.{Starts};
 ghost use Rattle.lines.specs.Lines.{printed};
 
 use input::Input;
-use libc::{STDERR_FILENO, STDOUT_FILENO};
 use recording::Checked;
 use tables::Answer;
 
@@ -48,17 +47,17 @@ fn answer(file: &[u8], out: &mut [u8; lines::SIZE]) -> usize
 }
 
 // The answer goes out in one piece. No well-formed file fills the buffer, so what is past it changes no answer.
-fn main() {
+fn main(rt: HostRuntime) {
     let mut buffer = [0u8; 65536];
-    match input::read(&mut buffer) {
+    match input::read(&mut rt.stdin(), &mut buffer) {
         Input::Failed => {
-            io::write_all(STDERR_FILENO, b"bankmurmur: cannot read standard input\n");
+            let _ = eprintln!(rt; "bankmurmur: cannot read standard input");
         }
         Input::Bytes(n) => {
             let mut out = [0u8; lines::SIZE];
             let length = answer(&buffer[..n], &mut out);
-            if !io::write_all(STDOUT_FILENO, &out[..length]) {
-                io::write_all(STDERR_FILENO, b"bankmurmur: cannot write standard output\n");
+            if rt.write_all(&out[..length]).is_err() {
+                let _ = eprintln!(rt; "bankmurmur: cannot write standard output");
             }
         }
     }

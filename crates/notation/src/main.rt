@@ -5,7 +5,6 @@ ghost use Rattle.spelling.specs.Notation.{said};
 ghost use Rattle.notation.specs.Program.{Makes};
 
 use input::Input;
-use libc::{STDERR_FILENO, STDOUT_FILENO};
 use spelling::Notation;
 use writing::Written;
 
@@ -56,48 +55,47 @@ fn make(text: &[u8], buffer: &mut [u8]) -> Made
 }
 
 // The line on standard error that says why there is no file.
-fn print_number(n: usize) {
-    io::write_all(STDERR_FILENO, b" ");
-    io::print_decimal(STDERR_FILENO, n as u64);
+fn print_number(rt: &impl Eprint, n: usize) {
+    let _ = eprint!(rt; " {n}");
 }
 
-fn print_bad(place: usize) {
-    io::write_all(STDERR_FILENO, b"notation");
-    print_number(place);
-    io::write_all(STDERR_FILENO, b"\n");
+fn print_bad(rt: &impl Eprint, place: usize) {
+    let _ = eprint!(rt; "notation");
+    print_number(rt, place);
+    let _ = eprintln!(rt);
 }
 
-fn print_refused(number: u32, place: usize) {
-    io::write_all(STDERR_FILENO, b"refused");
-    print_number(number as usize);
-    print_number(place);
-    io::write_all(STDERR_FILENO, b"\n");
+fn print_refused(rt: &impl Eprint, number: u32, place: usize) {
+    let _ = eprint!(rt; "refused");
+    print_number(rt, number as usize);
+    print_number(rt, place);
+    let _ = eprintln!(rt);
 }
 
 // The file, in one piece.
-fn print_file(file: &[u8]) {
-    if !io::write_all(STDOUT_FILENO, file) {
-        io::write_all(STDERR_FILENO, b"notation: cannot write standard output\n");
+fn print_file(rt: &(impl Print + Eprint), file: &[u8]) {
+    if rt.write_all(file).is_err() {
+        let _ = eprintln!(rt; "notation: cannot write standard output");
     }
 }
 
-fn answer(text: &[u8]) {
+fn answer(rt: &(impl Print + Eprint), text: &[u8]) {
     // No file is longer: 6 + 2 * 16 + 2 * 512 + 4 * 16000.
     let mut buffer = [0u8; 65062];
     match make(text, &mut buffer) {
-        Made::Bad(place) => print_bad(place),
-        Made::Refused(number, place) => print_refused(number, place),
-        Made::File(n) => print_file(&buffer[0..n]),
+        Made::Bad(place) => print_bad(rt, place),
+        Made::Refused(number, place) => print_refused(rt, number, place),
+        Made::File(n) => print_file(rt, &buffer[0..n]),
     }
 }
 
 // One byte more than a text may have, so that a longer text is seen to be too long.
-fn main() {
+fn main(rt: HostRuntime) {
     let mut text = [0u8; spelling::MOST + 1];
-    match input::read(&mut text) {
+    match input::read(&mut rt.stdin(), &mut text) {
         Input::Failed => {
-            io::write_all(STDERR_FILENO, b"notation: cannot read standard input\n");
+            let _ = eprintln!(rt; "notation: cannot read standard input");
         }
-        Input::Bytes(n) => answer(&text[0..n]),
+        Input::Bytes(n) => answer(&rt, &text[0..n]),
     }
 }

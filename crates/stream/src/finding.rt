@@ -55,6 +55,7 @@ fn put_late(
 
 // The early finder's half of a response, by way of out.
 fn tell_early(
+    rt: &impl Print,
     file: &[u8],
     stretch: &mut [u32],
     writer: &mut [u32],
@@ -63,11 +64,12 @@ fn tell_early(
 ) -> bool {
     let answer = early::find(file, stretch, writer, readers);
     let end = put_early(out, answer, stretch, writer, readers);
-    send(out, end)
+    send(rt, out, end)
 }
 
 // The late finder's half of a response, by way of out.
 fn tell_late(
+    rt: &impl Print,
     file: &[u8],
     stretch: &mut [u32],
     writer: &mut [u32],
@@ -77,7 +79,7 @@ fn tell_late(
 ) -> bool {
     let answer = late::find(file, stretch, writer, version, log);
     let end = put_late(out, answer, stretch, writer, version, log);
-    send(out, end)
+    send(rt, out, end)
 }
 
 // Number i of a request's head as the length of a table, which is never above 8,300.
@@ -116,7 +118,7 @@ fn noisy(n: usize, noise: u32) -> [u32; 8300]
     table
 }
 
-fn serve_early(head: &[u8], file: &[u8], out: &mut [u8]) -> bool {
+fn serve_early(rt: &impl Print, head: &[u8], file: &[u8], out: &mut [u8]) -> bool {
     let noise = number(head, 1);
     let stretch = table_length(head, 2);
     let writer = table_length(head, 3);
@@ -125,6 +127,7 @@ fn serve_early(head: &[u8], file: &[u8], out: &mut [u8]) -> bool {
     let mut b = noisy(writer, noise);
     let mut c = noisy(readers, noise);
     tell_early(
+        rt,
         file,
         &mut a[0..stretch],
         &mut b[0..writer],
@@ -133,7 +136,7 @@ fn serve_early(head: &[u8], file: &[u8], out: &mut [u8]) -> bool {
     )
 }
 
-fn serve_late(head: &[u8], file: &[u8], out: &mut [u8]) -> bool {
+fn serve_late(rt: &impl Print, head: &[u8], file: &[u8], out: &mut [u8]) -> bool {
     let noise = number(head, 1);
     let stretch = table_length(head, 5);
     let writer = table_length(head, 6);
@@ -144,6 +147,7 @@ fn serve_late(head: &[u8], file: &[u8], out: &mut [u8]) -> bool {
     let mut c = noisy(version, noise);
     let mut d = noisy(log, noise);
     tell_late(
+        rt,
         file,
         &mut a[0..stretch],
         &mut b[0..writer],
@@ -154,16 +158,16 @@ fn serve_late(head: &[u8], file: &[u8], out: &mut [u8]) -> bool {
 }
 
 // The response to a file of n bytes.
-fn respond(head: &[u8], file: &[u8], n: usize, out: &mut [u8]) -> bool {
+fn respond(rt: &impl Print, head: &[u8], file: &[u8], n: usize, out: &mut [u8]) -> bool {
     if file.len() < n {
         return false;
     }
     let sent = &file[0..n];
-    serve_early(head, sent, out) && serve_late(head, sent, out)
+    serve_early(rt, head, sent, out) && serve_late(rt, head, sent, out)
 }
 
 // Answers the request with this head, whose file comes to stand in the space.
-pub fn serve(head: &[u8], space: &mut [u8], out: &mut [u8]) -> bool {
+pub fn serve(rt: &(impl Input + Print), head: &[u8], space: &mut [u8], out: &mut [u8]) -> bool {
     let n = number(head, 0) as usize;
-    receive(space, n) && respond(head, space, n, out)
+    receive(rt, space, n) && respond(rt, head, space, n, out)
 }

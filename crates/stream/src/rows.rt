@@ -73,10 +73,10 @@ fn put_written(out: &mut [u8], answer: Written) -> usize {
 }
 
 // What the writer answered, and every byte of the buffer.
-fn tell_written(answer: Written, buffer: &[u8], out: &mut [u8]) -> bool {
+fn tell_written(rt: &impl Print, answer: Written, buffer: &[u8], out: &mut [u8]) -> bool {
     let at = put_written(out, answer);
     let end = put_bytes(out, at, buffer);
-    send(out, end)
+    send(rt, out, end)
 }
 
 fn write_rows(rows: &[u32], n: Lengths, buffer: &mut [u8]) -> Written
@@ -184,39 +184,52 @@ fn put_four(out: &mut [u8], a: u32, b: u32, c: u32, d: u32) -> usize {
 }
 
 // The counts of the file read back, and its rows.
-fn tell_rows(counts: Counts, rows: &[u32], out: &mut [u8]) -> bool {
+fn tell_rows(rt: &impl Print, counts: Counts, rows: &[u32], out: &mut [u8]) -> bool {
     let at = put_four(out, 1, counts.workers, counts.fields, counts.events);
     let end = put_numbers(out, at, rows);
-    send(out, end)
+    send(rt, out, end)
 }
 
 // What the writer makes of the rows, in this buffer.
-fn tell_rows_written(rows: &[u32], n: Lengths, buffer: &mut [u8], out: &mut [u8]) -> bool
+fn tell_rows_written(
+    rt: &impl Print,
+    rows: &[u32],
+    n: Lengths,
+    buffer: &mut [u8],
+    out: &mut [u8],
+) -> bool
     requires { n.worker_labels + n.field_labels + n.kinds + n.workers + n.fields ≤ length rows.now }
 {
     let answer = write_rows(rows, n, buffer);
-    tell_written(answer, buffer, out)
+    tell_written(rt, answer, buffer, out)
 }
 
 // The same in a second buffer, whose noise is another at every place.
-fn tell_again(head: &[u8], rows: &[u32], n: Lengths, out: &mut [u8]) -> bool
+fn tell_again(rt: &impl Print, head: &[u8], rows: &[u32], n: Lengths, out: &mut [u8]) -> bool
     requires { n.worker_labels + n.field_labels + n.kinds + n.workers + n.fields ≤ length rows.now }
 {
     let size = length_at(head, 8);
     let mut buffer = noisy(size, length_at(head, 1) + 125);
-    tell_rows_written(rows, n, &mut buffer[0..size], out)
+    tell_rows_written(rt, rows, n, &mut buffer[0..size], out)
 }
 
 // The rows of a file that the check accepted, and what the writer makes of them.
-fn tell_back(head: &[u8], file: &[u8], counts: Counts, rows: &mut [u32], out: &mut [u8]) -> bool
+fn tell_back(
+    rt: &impl Print,
+    head: &[u8],
+    file: &[u8],
+    counts: Counts,
+    rows: &mut [u32],
+    out: &mut [u8],
+) -> bool
     requires { Accepted file.now counts × (counts.workers + counts.fields + 3 * counts.events ≤ length rows.old) }
 {
     read_back(file, counts, rows);
-    tell_rows(counts, rows, out) && tell_again(head, rows, lengths_of(counts), out)
+    tell_rows(rt, counts, rows, out) && tell_again(rt, head, rows, lengths_of(counts), out)
 }
 
 // The same, where there is room for the rows.
-fn tell_accepted(head: &[u8], file: &[u8], counts: Counts, out: &mut [u8]) -> bool
+fn tell_accepted(rt: &impl Print, head: &[u8], file: &[u8], counts: Counts, out: &mut [u8]) -> bool
     requires { Accepted file.now counts }
 {
     let total = counts.workers as usize + counts.fields as usize + 3 * (counts.events as usize);
@@ -224,52 +237,72 @@ fn tell_accepted(head: &[u8], file: &[u8], counts: Counts, out: &mut [u8]) -> bo
         return false;
     }
     let mut rows = back_space();
-    tell_back(head, file, counts, &mut rows[0..total], out)
+    tell_back(rt, head, file, counts, &mut rows[0..total], out)
 }
 
-fn tell_refused(number: u32, place: usize, out: &mut [u8]) -> bool {
+fn tell_refused(rt: &impl Print, number: u32, place: usize, out: &mut [u8]) -> bool {
     let low = (place % 4294967296) as u32;
     let end = put_four(out, 0, number, low, 0);
-    send(out, end)
+    send(rt, out, end)
 }
 
 // What was written is read back.
-fn tell_file(head: &[u8], file: &[u8], out: &mut [u8]) -> bool {
+fn tell_file(rt: &impl Print, head: &[u8], file: &[u8], out: &mut [u8]) -> bool {
     match recording::check(file) {
-        Checked::Refused(number, place) => tell_refused(number, place, out),
-        Checked::Fine(counts) => tell_accepted(head, file, counts, out),
+        Checked::Refused(number, place) => tell_refused(rt, number, place, out),
+        Checked::Fine(counts) => tell_accepted(rt, head, file, counts, out),
     }
 }
 
 // There and back, where the writer has written so many bytes of the buffer.
-fn tell_there_and_back(head: &[u8], answer: Written, buffer: &[u8], out: &mut [u8]) -> bool {
+fn tell_there_and_back(
+    rt: &impl Print,
+    head: &[u8],
+    answer: Written,
+    buffer: &[u8],
+    out: &mut [u8],
+) -> bool {
     match answer {
         Written::Refused(_, _) => true,
         Written::Bytes(n) => {
             if buffer.len() < n {
                 return false;
             }
-            tell_file(head, &buffer[0..n], out)
+            tell_file(rt, head, &buffer[0..n], out)
         }
     }
 }
 
 // The response to the rows, by way of this buffer.
-fn tell_all(head: &[u8], rows: &[u32], n: Lengths, buffer: &mut [u8], out: &mut [u8]) -> bool
+fn tell_all(
+    rt: &impl Print,
+    head: &[u8],
+    rows: &[u32],
+    n: Lengths,
+    buffer: &mut [u8],
+    out: &mut [u8],
+) -> bool
     requires { n.worker_labels + n.field_labels + n.kinds + n.workers + n.fields ≤ length rows.now }
 {
     let answer = write_rows(rows, n, buffer);
-    tell_written(answer, buffer, out) && tell_there_and_back(head, answer, buffer, out)
+    tell_written(rt, answer, buffer, out) && tell_there_and_back(rt, head, answer, buffer, out)
 }
 
 // The response to the rows that have come in the space.
-fn respond(head: &[u8], space: &[u8], n: Lengths, rows: &mut [u32], out: &mut [u8]) -> bool
+fn respond(
+    rt: &impl Print,
+    head: &[u8],
+    space: &[u8],
+    n: Lengths,
+    rows: &mut [u32],
+    out: &mut [u8],
+) -> bool
     requires { (n.worker_labels + n.field_labels + n.kinds + n.workers + n.fields ≤ length rows.old) × (length rows.old ≤ 70000) }
 {
     take_numbers(space, rows);
     let size = length_at(head, 7);
     let mut buffer = noisy(size, length_at(head, 1));
-    tell_all(head, rows, n, &mut buffer[0..size], out)
+    tell_all(rt, head, rows, n, &mut buffer[0..size], out)
 }
 
 fn lengths_in(head: &[u8]) -> Lengths
@@ -292,15 +325,15 @@ fn row_space() -> [u32; 66000]
 }
 
 // Answers the request with this head, whose rows come by way of the space.
-pub fn serve(head: &[u8], space: &mut [u8], out: &mut [u8]) -> bool {
+pub fn serve(rt: &(impl Input + Print), head: &[u8], space: &mut [u8], out: &mut [u8]) -> bool {
     let n = lengths_in(head);
     let total = n.worker_labels + n.field_labels + n.kinds + n.workers + n.fields;
     if 66000 < total {
         return false;
     }
-    if !receive(space, 4 * total) {
+    if !receive(rt, space, 4 * total) {
         return false;
     }
     let mut rows = row_space();
-    respond(head, space, n, &mut rows[0..total], out)
+    respond(rt, head, space, n, &mut rows[0..total], out)
 }

@@ -1,7 +1,7 @@
 // Numbers on the wire: 32 bits, the low byte first. What both sorts of request are read and answered by.
 ghost use Rattle.std.specs.Prelude.{◌<◌, ◌≤◌, length};
 
-use libc::{STDIN_FILENO, STDOUT_FILENO};
+use std::io::Read;
 
 fn wide(x: u8) -> u32
     ensures { result < 256 }
@@ -74,17 +74,17 @@ pub fn put_bytes(out: &mut [u8], at: usize, row: &[u8]) -> usize {
 }
 
 // Sends the bytes before the end.
-pub fn send(out: &[u8], end: usize) -> bool {
+pub fn send(rt: &impl Print, out: &[u8], end: usize) -> bool {
     if out.len() < end {
         return false;
     }
-    io::write_all(STDOUT_FILENO, &out[0..end])
+    rt.write_all(&out[0..end]).is_ok()
 }
 
 // Receives n bytes, which come to stand at the start of the space.
-pub fn receive(space: &mut [u8], n: usize) -> bool {
+pub fn receive(rt: &impl Input, space: &mut [u8], n: usize) -> bool {
     if space.len() < n {
         return false;
     }
-    io::read_full(STDIN_FILENO, &mut space[0..n]) == n
+    rt.reader().read_exact(&mut space[0..n]).is_ok()
 }
