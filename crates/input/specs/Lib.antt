@@ -1,2 +1,2 @@
--- What must be believed of reading standard input.
+-- What must be believed of reading.
 pub mod Reading

@@ -1,4 +1,4 @@
-// The program: reads lines of document 01's notation from standard input, and writes the recording file to standard output.
+// The program: reads lines of the notation for recordings from standard input, and writes the recording file to standard output.
 #![tactic(auto)]
 
 ghost use Rattle.spelling.specs.Notation.{said};
