@@ -2,6 +2,7 @@
 ghost use Rattle.std.specs.Prelude.{◌<◌, ◌≤◌, ◌≡◌, length};
 
 use crate::wire::{number, put, put_numbers, receive, send};
+use std::io::Read;
 use tables::Answer;
 
 // The six numbers that begin each half of a response.
@@ -167,7 +168,13 @@ fn respond(rt: &impl Print, head: &[u8], file: &[u8], n: usize, out: &mut [u8]) 
 }
 
 // Answers the request with this head, whose file comes to stand in the space.
-pub fn serve(rt: &(impl Input + Print), head: &[u8], space: &mut [u8], out: &mut [u8]) -> bool {
+pub fn serve(
+    rt: &impl Print,
+    input: &mut impl Read,
+    head: &[u8],
+    space: &mut [u8],
+    out: &mut [u8],
+) -> bool {
     let n = number(head, 0) as usize;
-    receive(rt, space, n) && respond(rt, head, space, n, out)
+    receive(input, space, n) && respond(rt, head, space, n, out)
 }

@@ -4,6 +4,8 @@
 
 ghost use Rattle.std.specs.Prelude.{◌≡◌, length};
 
+use std::io::Read;
+
 mod wire; // wire.rt: numbers on the wire
 mod finding; // finding.rt: the finders' requests
 mod rows; // rows.rt: the writer's requests
@@ -16,22 +18,22 @@ fn head_space() -> [u8; 36]
 }
 
 // Answers one request by way of the space that is lent; false where the stream has ended or cannot go on.
-fn serve(rt: &(impl Input + Print), space: &mut [u8], out: &mut [u8]) -> bool {
+fn serve(rt: &impl Print, input: &mut impl Read, space: &mut [u8], out: &mut [u8]) -> bool {
     let mut head = head_space();
-    if !wire::receive(rt, &mut head, 36) {
+    if !wire::receive(input, &mut head, 36) {
         return false;
     }
     // A length that no file has marks a request to the writer.
     if wire::number(&head, 0) == 4294967294 {
-        return rows::serve(rt, &head, space, out);
+        return rows::serve(rt, input, &head, space, out);
     }
-    finding::serve(rt, &head, space, out)
+    finding::serve(rt, input, &head, space, out)
 }
 
 // Answers requests until the stream ends.
-fn serve_all(rt: &(impl Input + Print), space: &mut [u8], out: &mut [u8]) {
+fn serve_all(rt: &impl Print, input: &mut impl Read, space: &mut [u8], out: &mut [u8]) {
     for _ in 0..1_000_000_000u64 {
-        if !serve(rt, space, out) {
+        if !serve(rt, input, space, out) {
             return;
         }
     }
@@ -54,5 +56,5 @@ fn response_space() -> [u8; 194128]
 fn main(rt: HostRuntime) {
     let mut space = request_space();
     let mut out = response_space();
-    serve_all(&rt, &mut space, &mut out);
+    serve_all(&rt, &mut rt.stdin(), &mut space, &mut out);
 }

@@ -6,6 +6,7 @@ use crate::wire::{number, put, put_bytes, put_numbers, receive, send, take_numbe
 use events::Event;
 use recording::{Checked, Counts};
 use sorts::{Field, Worker};
+use std::io::Read;
 use writing::Written;
 
 // How long the five rows are; they stand one after another.
@@ -325,13 +326,19 @@ fn row_space() -> [u32; 66000]
 }
 
 // Answers the request with this head, whose rows come by way of the space.
-pub fn serve(rt: &(impl Input + Print), head: &[u8], space: &mut [u8], out: &mut [u8]) -> bool {
+pub fn serve(
+    rt: &impl Print,
+    input: &mut impl Read,
+    head: &[u8],
+    space: &mut [u8],
+    out: &mut [u8],
+) -> bool {
     let n = lengths_in(head);
     let total = n.worker_labels + n.field_labels + n.kinds + n.workers + n.fields;
     if 66000 < total {
         return false;
     }
-    if !receive(rt, space, 4 * total) {
+    if !receive(input, space, 4 * total) {
         return false;
     }
     let mut rows = row_space();

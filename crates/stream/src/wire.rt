@@ -82,9 +82,9 @@ pub fn send(rt: &impl Print, out: &[u8], end: usize) -> bool {
 }
 
 // Receives n bytes, which come to stand at the start of the space.
-pub fn receive(rt: &impl Input, space: &mut [u8], n: usize) -> bool {
+pub fn receive(input: &mut impl Read, space: &mut [u8], n: usize) -> bool {
     if space.len() < n {
         return false;
     }
-    rt.reader().read_exact(&mut space[0..n]).is_ok()
+    input.read_exact(&mut space[0..n]).is_ok()
 }
