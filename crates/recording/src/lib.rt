@@ -182,7 +182,7 @@ impl<'a> Reader<'a> {
     }
 }
 
-// What a reader over the file hands out at a place. Its parameters are plain, so its callers need no walk.
+// What a reader over the file hands out at a place, told by plain parameters.
 pub fn read(file: &[u8], workers: u32, fields: u32, events: u32, at: usize) -> Step
     ensures { result ≡ step_at file.now at }
 {

@@ -144,9 +144,9 @@ module _ (c : Contents) where
   reads_back =
       record {
         workers = workers_back;
-        worker_labels_lem = label_back file 0 c.workers c.worker_label workers_hold;
+        worker_labels = label_back file 0 c.workers c.worker_label workers_hold;
         fields = fields_back;
-        field_labels_lem = rw workers_back (label_back file (fields_at c.workers) c.fields c.field_label fields_hold);
+        field_labels = rw workers_back (label_back file (fields_at c.workers) c.fields c.field_label fields_hold);
         events = events_back;
         entries = rw (workers_back, fields_back) (entry_back file (events_at c.workers c.fields) c.events c.entry events_hold);
       }
@@ -185,8 +185,8 @@ module _ (r : Rows) (fine : rows_tests r ≡ Fine) where
       let n₄ = fit.as_many_workers in
       let n₅ = fit.as_many_fields in
       rw (
-        row_back (worker_label made) (worker_count made) r.worker_labels n₁ back.worker_labels_lem,
-        row_back (field_label made) (field_count made) r.field_labels n₂ back.field_labels_lem,
+        row_back (worker_label made) (worker_count made) r.worker_labels n₁ back.worker_labels,
+        row_back (field_label made) (field_count made) r.field_labels n₂ back.field_labels,
         row_back (λ n. (numbers_of (event_at made n)).kind) (event_count made) r.kinds (omega arith) (λ n l. ap (λ (e : Entry). e.kind) (event_back n (omega arith))),
         row_back (λ n. (numbers_of (event_at made n)).worker) (event_count made) r.workers (omega arith) (λ n l. ap (λ (e : Entry). e.worker) (event_back n (omega arith))),
         row_back (λ n. (numbers_of (event_at made n)).field) (event_count made) r.fields (omega arith) (λ n l. ap (λ (e : Entry). e.field) (event_back n (omega arith))),

@@ -110,9 +110,9 @@ module _ (s : List ℕ) (bytes : (i : ℕ) → get_or s i 0 < 256) where
     agree =
         record {
           workers = length-listed (worker_label s) 0 (worker_count s);
-          worker_labels_lem = number_back (worker_label s) (worker_count s);
+          worker_labels = number_back (worker_label s) (worker_count s);
           fields = length-listed (field_label s) 0 (field_count s);
-          field_labels_lem = number_back (field_label s) (field_count s);
+          field_labels = number_back (field_label s) (field_count s);
           events = one.0;
           entries =
               λ n l.
@@ -134,8 +134,8 @@ module _ (s : List ℕ) (bytes : (i : ℕ) → get_or s i 0 < 256) where
         let a = agree in
         let W = a.workers in
         let F = a.fields in
-        let w = fitting_whole (number_of r.worker_labels) 0 (length r.worker_labels) (λ j l. rw (a.worker_labels_lem j (omega arith)) (label_two 2 j)) in
-        let f = fitting_whole (number_of r.field_labels) 0 (length r.field_labels) (λ j l. rw (a.field_labels_lem j (omega arith)) (label_two (fields_at (worker_count s) + 2) j)) in
+        let w = fitting_whole (number_of r.worker_labels) 0 (length r.worker_labels) (λ j l. rw (a.worker_labels j (omega arith)) (label_two 2 j)) in
+        let f = fitting_whole (number_of r.field_labels) 0 (length r.field_labels) (λ j l. rw (a.field_labels j (omega arith)) (label_two (fields_at (worker_count s) + 2) j)) in
         reach_whole r (omega arith) (omega arith) ∙ rw (W, F, one.1) (sym good.size)
 
     tests_pass : rows_tests r ≡ Fine
