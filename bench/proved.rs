@@ -1,11 +1,11 @@
-//! The proved finders and the proved writer, linked from the static library of the crate `linked`.
+//! The proved finders and the proved writer, linked from the static library that the crate `linked_c` makes.
 
 use crate::baseline::Answer;
 use reference::file::Refused;
 use reference::writing::{Rows, Written};
 
 // A slice passes as a pointer and a length, the row as a pointer. Nothing checks these lines against the library's source:
-// crates/linked/src/lib.rt has the signatures.
+// crates/linked_c/src/lib.rt has the signatures.
 extern "C" {
     fn bankmurmur_early(
         file: *const u8,

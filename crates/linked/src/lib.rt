@@ -1,4 +1,4 @@
-// The library as a Rust or C program links it: the finders and the writer on plain slices, their answers as rows of six numbers.
+// The finders and the writer on plain slices, their answers as rows of six numbers: what `linked_c` exports.
 #![tactic(auto)]
 
 ghost use Rattle.std.specs.Prelude.{◌≡◌};
@@ -37,8 +37,7 @@ fn put_row(answer: Answer, row: &mut [u64; 6])
     }
 }
 
-#[unsafe(no_mangle)]
-pub extern "C" fn bankmurmur_early(
+pub fn bankmurmur_early(
     file: &[u8],
     stretch: &mut [u32],
     writer: &mut [u32],
@@ -51,8 +50,7 @@ pub extern "C" fn bankmurmur_early(
     put_row(answer, row);
 }
 
-#[unsafe(no_mangle)]
-pub extern "C" fn bankmurmur_late(
+pub fn bankmurmur_late(
     file: &[u8],
     stretch: &mut [u32],
     writer: &mut [u32],
@@ -79,8 +77,7 @@ fn put_written(answer: Written, row: &mut [u64; 6])
     }
 }
 
-#[unsafe(no_mangle)]
-pub extern "C" fn bankmurmur_write(
+pub fn bankmurmur_write(
     worker_labels: &[u32],
     field_labels: &[u32],
     kinds: &[u32],
