@@ -6,27 +6,27 @@ use Prim.Native.Nat.{ℕ}
 use native.Mathlib.Omega.{arith}
 use lib.ListN.{take}
 use lib.Seq.{take_all}
-use Rattle.recording.specs.declared.Fault.{Fault}
-use Rattle.recording.specs.declared.Fault.TheVariants.{Fine, Refused}
+use Rattle.std.specs.Prelude.{Result, Ok, Err}
+use Rattle.recording.specs.declared.refusal.Refusal.{Refusal}
+use Rattle.recording.specs.Refusals.{Fault, number_of}
 use Rattle.recording.specs.declared.Counts.{Counts}
-use Rattle.recording.specs.declared.Checked.{Checked}
-use Rattle.recording.specs.declared.Checked.TheVariants.{Refused as Checked-refused, Fine as Checked-fine}
 use Rattle.recording.specs.File.{refusal, checked, counts_in, Accepted}
 use Rattle.recording.proofs.Acceptance.{fine_accepted, refused_refusal}
 use Rattle.recording.proofs.WellFormed.{fine_well_formed}
 use Rattle.recording.proofs.Longer.{longer_refusal}
-use Rattle.tables.specs.declared.Answer.{Answer}
+use Rattle.tables.specs.declared.Objection.{Objection}
 use Rattle.tables.specs.Answers.{said_by}
 use Rattle.tables.specs.Finds.{early_of, late_of, said}
 use Rattle.lines.specs.Text.{Starts}
 use Rattle.lines.specs.Lines.{refused_line, report_lines, printed_after, printed}
 
-module _ (file lent out : List ℕ) (n : ℕ) (r : Checked) (is : r ≡ checked file) where
-  pub refused_printed : (number place : ℕ) → r ≡ Checked-refused number place → Starts (refused_line number place) lent out n → Starts (printed file) lent out n
+module _ (file lent out : List ℕ) (n : ℕ) (r : Result Counts Refusal) (is : r ≡ checked file) where
+  pub refused_printed : (found : Refusal) (number : ℕ) → r ≡ Err found → number ≡ number_of found.reason → Starts (refused_line number found.place) lent out n
+      → Starts (printed file) lent out n
   unfolding printed printed_after
-  refused_printed number place q p = rw (refused_refusal file r is number place q) p
+  refused_printed found number q e p = rw (refused_refusal file r is found q) (rw e at p)
 
-  pub judged_printed : (counts : Counts) (e l : Answer) → r ≡ Checked-fine counts → said_by e ≡ said (refusal true file) (early_of file)
+  pub judged_printed : (counts : Counts) (e l : Result (Unit {0}) Objection) → r ≡ Ok counts → said_by e ≡ said (refusal true file) (early_of file)
       → said_by l ≡ said (refusal true file) (late_of file)
       → Starts (report_lines file counts (said_by e) (said_by l)) lent out n → Starts (printed file) lent out n
   unfolding printed printed_after
@@ -41,7 +41,7 @@ unfolding printed printed_after
 whole_printed file = by (refusal true file) refl
   where
     by : (x : Fault) → refusal true file ≡ x → printed_after (refusal true (take 65536 file)) (take 65536 file) ≡ printed_after (refusal true file) file
-    by (Refused number place) e = rw (longer_refusal file 65536 (omega arith) true, e)
-    by Fine e =
+    by (Err r) e = rw (longer_refusal file 65536 (omega arith) true, e)
+    by (Ok done) e =
         let good = fine_well_formed file true e in
         rw (take_all 65536 file (omega (arith, good.size, good.few_workers, good.few_fields, good.few_events)))

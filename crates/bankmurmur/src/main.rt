@@ -8,11 +8,10 @@ ghost use Rattle.tables.specs.Finds.{early_of, late_of, said};
 ghost use Rattle.lines.specs.Text.{Starts};
 ghost use Rattle.lines.specs.Lines.{printed};
 
-use input::Input;
-use recording::Checked;
 use tables::Answer;
 
-// What each finder says of a file, with tables of its own.
+// What each finder says of a file, with tables of its own: three and four, of other lengths, lent by position, so they are two functions.
+// The tables are arrays, as everywhere: there is no heap.
 fn early_answer(file: &[u8]) -> Answer
     ensures { said_by result ≡ said (refusal true file.now) (early_of file.now) }
 {
@@ -37,8 +36,8 @@ fn answer(file: &[u8], out: &mut [u8; lines::SIZE]) -> usize
     ensures { Starts (printed file.now) out.old out.new result }
 {
     match recording::check(file) {
-        Checked::Refused(number, place) => lines::refused(out, number, place),
-        Checked::Fine(counts) => {
+        Err(r) => lines::refused(out, r.reason.number(), r.place),
+        Ok(counts) => {
             let early = early_answer(file);
             let late = late_answer(file);
             lines::report(out, file, counts, early, late)
@@ -50,10 +49,10 @@ fn answer(file: &[u8], out: &mut [u8; lines::SIZE]) -> usize
 fn main(rt: HostRuntime) {
     let mut buffer = [0u8; 65536];
     match input::read(&mut rt.stdin(), &mut buffer) {
-        Input::Failed => {
+        Err(_) => {
             let _ = eprintln!(rt; "bankmurmur: cannot read standard input");
         }
-        Input::Bytes(n) => {
+        Ok(n) => {
             let mut out = [0u8; lines::SIZE];
             let length = answer(&buffer[..n], &mut out);
             if rt.write_all(&out[..length]).is_err() {

@@ -6,7 +6,7 @@ use Prim.Native.Nat.{ℕ}
 use Rattle.events.specs.Verdicts.{Verdict}
 use Rattle.events.specs.Reports as verdicts
 use Rattle.events.proofs.Demands.{late_reports_too, late_not_before, late_at_once, late_by_crossing, late_by_end}
-use Rattle.recording.specs.declared.Fault.TheVariants.{Fine}
+use Rattle.recording.specs.Refusals.{fine}
 use Rattle.recording.specs.File.{events_in, event_count, worker_count, field_count, counts_in}
 use Rattle.recording.specs.WellFormed.{WellFormed}
 use Rattle.recording.proofs.Guarantee.{Guarantee, guarantee}
@@ -43,10 +43,10 @@ module _ (file : List ℕ) (good : WellFormed file)
   certain = guarantee file (counts_in file) (record { fine = well_formed_fine file good; workers = refl; fields = refl; events = refl })
 
   early_says : a ≡ judged (early_of file)
-  early_says = let fine : early.fault file S₀ Wr₀ Rd₀ ≡ Fine = rw full (well_formed_fine file good) in rw fine at x.answers
+  early_says = let passed : early.fault file S₀ Wr₀ Rd₀ ≡ fine = rw full (well_formed_fine file good) in rw passed at x.answers
 
   late_says : b ≡ judged (late_of file)
-  late_says = let fine : late.fault file S₁ Wr₁ Vr₁ Lg₁ ≡ Fine = rw full' (well_formed_fine file good) in rw fine at y.answers
+  late_says = let passed : late.fault file S₁ Wr₁ Vr₁ Lg₁ ≡ fine = rw full' (well_formed_fine file good) in rw passed at y.answers
 
   -- DEMAND 3 of `early::find` and `late::find`.
   pub together : Together file a b

@@ -9,7 +9,7 @@ use Rattle.events.specs.Clashes.{Clash, SomeAt, FirstClash}
 use Rattle.events.specs.Verdicts.{accepted, reported}
 use Rattle.events.specs.Reports.{EventNames, Exactly}
 use Rattle.events.proofs.Demands.{early_names, early_accepts}
-use Rattle.recording.specs.declared.Fault.TheVariants.{Fine}
+use Rattle.recording.specs.Refusals.{fine}
 use Rattle.recording.specs.File.{events_in, counts_in}
 use Rattle.recording.specs.WellFormed.{WellFormed}
 use Rattle.recording.proofs.Guarantee.{Guarantee, guarantee}
@@ -27,7 +27,7 @@ module _ (file S₀ Wr₀ Rd₀ : List ℕ) where
     certain = guarantee file (counts_in file) (record { fine = well_formed_fine file good; workers = refl; fields = refl; events = refl })
 
     says : a ≡ judged (early_of file)
-    says = let fine : fault file S₀ Wr₀ Rd₀ ≡ Fine = rw full (well_formed_fine file good) in rw fine at finds.answers
+    says = let passed : fault file S₀ Wr₀ Rd₀ ≡ fine = rw full (well_formed_fine file good) in rw passed at finds.answers
 
     -- The finder reports event n with this sort, worker, other worker and field exactly if n is the lowest-numbered event of the
     -- recording that clashes, and these are its names.

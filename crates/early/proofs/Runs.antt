@@ -1,11 +1,8 @@
 -- The finder's loop: what holds before event n, and what each way on gives.
-use mathlib.Core.Path.{◌≡◌, sym, ◌∙◌, ap}
+use mathlib.Core.Path.{◌≡◌, sym, ◌∙◌}
 use mathlib.Core.List.{List, []}
 use Prim.Native.Nat.{ℕ, ◌+◌, ◌<◌, ◌≤◌}
 use native.Mathlib.Omega.{arith}
-use lib.ListN.{length}
-use Rattle.sorts.specs.declared.Worker.{Worker}
-use Rattle.sorts.specs.declared.Field.{Field}
 use Rattle.events.specs.declared.Event.{Event}
 use Rattle.events.specs.declared.Deed.{Deed}
 use Rattle.events.specs.Acts.{Act, History, deed_of, acts_of, before, deed_worker}
@@ -21,17 +18,17 @@ use Rattle.recording.specs.declared.Counts.{Counts}
 use Rattle.recording.specs.File.{event_at, field_label}
 use Rattle.recording.proofs.Guarantee.{Guarantee, guarantee}
 use Rattle.flags.specs.Flags.{flags_from}
-use Rattle.tables.specs.declared.Verdict.{Verdict}
-use Rattle.tables.specs.declared.Verdict.TheVariants.{Accepted, Reported}
+use Rattle.tables.specs.declared.Report.{Report}
 use Rattle.tables.specs.Lent.{cells}
-use Rattle.tables.specs.Answers.{verdict_of}
+use Rattle.tables.specs.Answers.{sort_number, report_of}
 use Rattle.tables.specs.Finds.{acts_in}
-use Rattle.tables.specs.Steps.{stretch_after, writer_after}
 use Rattle.tables.proofs.Lent.{shown_length}
 use Rattle.tables.proofs.Files.{deed_at, file_sound_full, file_numbers, file_worker, file_does, file_stretch}
 use Rattle.tables.proofs.Shown.{shown_stretch}
 use Rattle.tables.proofs.Runs.{Sees, Reached, Course, reached_start, reached_next, reached_stop, reached_end, now_within, event_within, history_next, history_stop, history_end}
-use Rattle.early.specs.Steps.{readers_after, Room, Stepped}
+use Rattle.early.specs.declared.Tables.{Tables}
+use Rattle.early.specs.Steps.{Room, Stepped}
+use Rattle.early.proofs.Laws.{lent_still}
 use Rattle.early.specs.Runs.{Shows, Ready, Ran}
 use Rattle.early.proofs.Shown.{meets_shown, shows_after}
 
@@ -54,53 +51,35 @@ early_sees W F few = record {
 abbrev end : History → ℕ → papers.Verdict
 end h n = accepted
 
--- the events before n were passed and are entered; the tables were S₀, Wr₀, Rd₀ at the start
-pub record Running (file : List ℕ) (counts : Counts) (S₀ Wr₀ Rd₀ S Wr Rd : List ℕ) (n : ℕ) : Type 0 where
+-- the events before n were passed and are entered; the tables were lent as t₀
+pub record Running (file : List ℕ) (counts : Counts) (t₀ t : Tables) (n : ℕ) : Type 0 where
   pub low : n ≤ counts.events
-  pub short : counts.events ≤ 16000
   pub so_far : Reached early_look end file n
-  pub shows : Shows counts.workers (before [] (acts_in file) n) S₀ Wr₀ Rd₀ S Wr Rd
-  pub stretch_length : length S ≡ length S₀
-  pub writer_length : length Wr ≡ length Wr₀
-  pub readers_length : length Rd ≡ length Rd₀
+  pub shows : Shows (before [] (acts_in file) n) t₀ t
 
--- the lengths are what the tables shown say
-running : (file : List ℕ) (counts : Counts) (S₀ Wr₀ Rd₀ S Wr Rd : List ℕ) (n : ℕ) → n ≤ counts.events → counts.events ≤ 16000
-    → Reached early_look end file n → Shows counts.workers (before [] (acts_in file) n) S₀ Wr₀ Rd₀ S Wr Rd
-    → Running file counts S₀ Wr₀ Rd₀ S Wr Rd n
-running file counts S₀ Wr₀ Rd₀ S Wr Rd n l k p shows = record {
-  low = l;
-  short = k;
-  so_far = p;
-  shows = shows;
-  stretch_length = shows.stretch.same_length;
-  writer_length = shows.writer.same_length;
-  readers_length = shows.readers.same_length;
-}
-
-module _ (file : List ℕ) (counts : Counts) (S₀ Wr₀ Rd₀ : List ℕ) (ready : Ready file counts S₀ Wr₀ Rd₀) where
+module _ (file : List ℕ) (counts : Counts) (t₀ : Tables) (ready : Ready file counts t₀) where
   good : Guarantee file counts
   good = guarantee file counts ready.checked
 
-  course : Course early_look end counts.workers 512 file counts
-  course = record { sees = early_sees counts.workers 512 good.few_workers; good = good; sound = file_sound_full file counts good }
+  few : t₀.workers ≤ 16
+  few = omega (arith, ready.workers, good.few_workers)
 
-  pub run_start : Running file counts S₀ Wr₀ Rd₀ S₀ Wr₀ Rd₀ 0
+  course : Course early_look end t₀.workers 512 file counts
+  course = record { sees = early_sees t₀.workers 512 few; good = good; sound = rw ready.workers (file_sound_full file counts good) }
+
+  pub run_start : Running file counts t₀ t₀ 0
   unfolding before
-  run_start =
-      running file counts S₀ Wr₀ Rd₀ S₀ Wr₀ Rd₀ 0 (omega arith) good.few_events
-      (reached_start course)
-      ready.empty
+  run_start = record { low = omega arith; so_far = reached_start course; shows = ready.empty }
 
   -- before event n
-  module _ (S Wr Rd : List ℕ) (n : ℕ) (run : Running file counts S₀ Wr₀ Rd₀ S Wr Rd n) where
+  module _ (t : Tables) (n : ℕ) (run : Running file counts t₀ t n) where
     abbrev now : History
     now = before [] (acts_in file) n
 
-    inside : ActsWithin counts.workers 512 now
+    inside : ActsWithin t₀.workers 512 now
     inside = now_within course n run.so_far
 
-    pub run_end : counts.events ≤ n → Ran file counts accepted S₀ Wr₀ Rd₀ S Wr Rd
+    pub run_end : counts.events ≤ n → Ran file counts accepted t₀ t
     run_end l = record {
       answer = sym (reached_end course n run.so_far l);
       shows = rw (history_end course ready.checked n run.low l) run.shows;
@@ -110,49 +89,51 @@ module _ (file : List ℕ) (counts : Counts) (S₀ Wr₀ Rd₀ : List ℕ) (read
       abbrev event : List Act
       event = acts_of (deed_at file n)
 
-      event_inside : ActsWithin counts.workers 512 event
+      event_inside : ActsWithin t₀.workers 512 event
       event_inside = event_within course n run.so_far l
 
-      entered : first_of (early_look now n) event ≡ accepted → Running file counts S₀ Wr₀ Rd₀ (stretch_after S event) (writer_after S Wr event) (readers_after S Rd event) (n + 1)
-      entered o =
-          running file counts S₀ Wr₀ Rd₀ (stretch_after S event) (writer_after S Wr event) (readers_after S Rd event) (n + 1) (omega arith) run.short
-          (reached_next course n run.so_far l o)
-          (rw (history_next course n run.so_far l)
-          (shows_after counts.workers good.few_workers S₀ Wr₀ Rd₀ now inside S Wr Rd run.shows event event_inside))
+      worker_in : deed_worker (deed_at file n) < t₀.workers
+      worker_in = omega (arith, ready.workers, file_worker file counts good n l)
 
       -- Event n does d. The loop has it from the event and the number of plain fields.
-      module _ (plain : ℕ) (p : plain ≡ flags_from (field_label file) counts.fields) (e : Event) (t : e ≡ event_at file n) (d : Deed) (k : d ≡ deed_of plain e) where
+      module _ (plain : ℕ) (p : plain ≡ flags_from (field_label file) counts.fields) (e : Event) (t' : e ≡ event_at file n) (d : Deed) (k : d ≡ deed_of plain e) where
         does : d ≡ deed_at file n
-        does = file_does file counts good ready.checked n plain p e t d k
+        does = file_does file counts good ready.checked n plain p e t' d k
 
-        pub run_room : Room d S Wr Rd
+        pub run_room : Room d t
         run_room = rw does (record {
           numbers = file_numbers file counts good n l;
           sized = record {
-            stretch = shown_length 16 (stretch_word counts.workers now) S₀ S run.shows.stretch;
-            writer = shown_length 512 (writer_word now) Wr₀ Wr run.shows.writer;
-            readers = shown_length 8192 (cells (readers_word now)) Rd₀ Rd run.shows.readers;
+            stretch = shown_length 16 (stretch_word t₀.workers now) t₀.stretch.now t.stretch.now run.shows.stretch;
+            writer = shown_length 512 (writer_word now) t₀.writer.now t.writer.now run.shows.writer;
+            readers = shown_length 8192 (cells (readers_word now)) t₀.readers.now t.readers.now run.shows.readers;
           };
-          number = rw (shown_stretch counts.workers good.few_workers now S₀ S run.shows.stretch (deed_worker (deed_at file n)) (file_worker file counts good n l))
+          number = rw (shown_stretch t₀.workers few now t₀.stretch.now t.stretch.now run.shows.stretch (deed_worker (deed_at file n)) worker_in)
               (file_stretch file counts good n (deed_worker (deed_at file n)) run.low);
         })
 
-        module _ (r : Verdict) (S' Wr' Rd' : List ℕ) (step : Stepped counts.workers n d (verdict_of r) S Wr Rd S' Wr' Rd') where
+        module _ (v : papers.Verdict) (t₁ : Tables) (step : Stepped n d v t t₁) where
           -- what the words say of event n is the early look at it
-          says : verdict_of r ≡ first_of (early_look now n) event
-          says =
-              step.answer ∙ rw does
-              (meets_shown counts.workers good.few_workers S₀ Wr₀ Rd₀ now inside S Wr Rd run.shows run.so_far.calm n event event_inside)
+          says : v ≡ first_of (early_look now n) event
+          says = step.answer ∙ rw does (meets_shown t₀ t few now inside run.shows run.so_far.calm n (deed_at file n) event_inside)
 
-          pub run_next : r ≡ Accepted → Running file counts S₀ Wr₀ Rd₀ S' Wr' Rd' (n + 1)
-          run_next o =
-              rw (rw (o, does) at step.stretch, rw (o, does) at step.writer, rw (o, does) at step.readers) (entered (sym says ∙ ap verdict_of o))
+          pub run_stop : (r : Report) → v ≡ report_of r → Ran file counts v t₀ t₁
+          run_stop r o = record {
+            answer = o ∙ sym (reached_stop course n run.so_far l r.event (sort_number r.sort) r.worker.0 r.other.0 r.field.0 (sym says ∙ o));
+            shows = rw (history_stop course n run.so_far l v r.event (sort_number r.sort) r.worker.0 r.other.0 r.field.0 says o)
+                (record {
+                  lent = lent_still t₀ t t₁ run.shows.lent step.lent;
+                  stretch = rw (rw o at step.stretch) run.shows.stretch;
+                  writer = rw (rw o at step.writer) run.shows.writer;
+                  readers = rw (rw o at step.readers) run.shows.readers;
+                });
+          }
 
-          pub run_stop : (m a : ℕ) (w u : Worker) (f : Field) → r ≡ Reported m a w u f → Ran file counts (verdict_of r) S₀ Wr₀ Rd₀ S' Wr' Rd'
-          run_stop m a w u f o =
-              let o' = ap verdict_of o in
-              rw (rw o at step.stretch, rw o at step.writer, rw o at step.readers)
-              (record {
-                answer = o' ∙ sym (reached_stop course n run.so_far l m a w.0 u.0 f.0 (sym says ∙ o'));
-                shows = rw (history_stop course n run.so_far l (verdict_of r) m a w.0 u.0 f.0 says o') run.shows;
-              })
+        pub run_next : (t₁ : Tables) → Stepped n d accepted t t₁ → Running file counts t₀ t₁ (n + 1)
+        run_next t₁ step = record {
+          low = omega arith;
+          so_far = reached_next course n run.so_far l (sym (says accepted t₁ step));
+          shows = rw (history_next course n run.so_far l)
+              (shows_after t₀ t few now inside run.shows t₁ event event_inside step.lent
+              (rw does at step.stretch) (rw does at step.writer) (rw does at step.readers));
+        }

@@ -10,14 +10,11 @@ use sorts::Field;
 // A field with this label or a higher one is a flag.
 const LOWEST_LABEL: u32 = 32_768;
 
-// The number of the first flag of a file with so many fields; that many if there is none.
+// The number of the first flag of a file with so many fields; that many if there is none. It is a number and no Option: so many fields are plain.
 pub fn first_flag(file: &[u8], fields: u32) -> u32
     ensures { result ≡ flags_from (field_label file.now) fields }
 {
-    for f in 0..fields {
-        if LOWEST_LABEL <= recording::field_label(file, Field(f)) {
-            return f;
-        }
-    }
-    fields
+    (0..fields)
+        .find(|f| LOWEST_LABEL <= recording::field_label(file, Field(*f)))
+        .unwrap_or(fields)
 }

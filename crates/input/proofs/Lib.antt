@@ -1,2 +1,2 @@
--- Laws of what was read.
+-- What a read adds to what was read before it.
 pub mod Reading

@@ -1,20 +1,20 @@
--- What was read lies within the buffer.
-use mathlib.Core.Path.{◌≡◌, sym}
-use mathlib.Core.List.{List}
-use Prim.Native.Nat.{ℕ, ◌≤◌}
-use lib.ListN.{length, take}
-use lib.Seq.{length-take-le}
-use Rattle.input.specs.declared.Input.{Input}
-use Rattle.input.specs.declared.Input.TheVariants.{Bytes}
-use Rattle.input.specs.Reading.{ReadInto}
+-- The start of a buffer before and after a read into the rest of it.
+use Rattle.std.proofs.Common.{◌≡◌, ℕ, ◌+◌, ◌≤◌, List, ◌++◌, length, take, length-take-le}
+use Rattle.std.proofs.lemmas.List.{take-append-le}
+use Rattle.std.proofs.Math.Seq.{take-append-add}
+use Rattle.std.specs.Prelude.{Option}
+use Rattle.std.specs.Io.KnownBytes.{Consumes}
+use Rattle.std.proofs.KnownBytes.{Consumes-trans}
+use borrow.Rule.Slice.PartMut.{put_mid, post_of}
 
--- bytes at the start of a buffer
-pub counted : (buffer : List ℕ) (n : ℕ) → n ≤ length buffer → (n ≤ length buffer) × (n ≡ length (take n buffer))
-counted buffer n l = (l, sym (length-take-le n buffer l))
+module _ (at k n : ℕ) (buffer part : List ℕ) (low : at ≤ length buffer) (fits : n ≤ length part) where
+  -- what a read brings stands behind what is there
+  longer : take (at + n) (put_mid at k buffer part) ≡ take at buffer ++ take n part
+  longer =
+      let start = length-take-le at buffer low in
+      let seam = take-append-add (take at buffer) (part ++ post_of at k buffer) n in
+      rw (start, take-append-le n part (post_of at k buffer) fits) at seam
 
-module _ (buffer : List ℕ) (r : Input) (n : ℕ) (q : r ≡ Bytes n) (h : ReadInto buffer r) where
-  pub read_within : n ≤ length buffer
-  read_within = (rw q at h).0
-
-  pub read_count : n ≡ length (take n buffer)
-  read_count = (rw q at h).1
+  -- and so is what the reader gave so far
+  pub brought : (first now next : Option (List ℕ)) → Consumes first now (take at buffer) → Consumes now next (take n part) → Consumes first next (take (at + n) (put_mid at k buffer part))
+  brought first now next h r = rw longer (Consumes-trans first now next _ _ h r)

@@ -1,40 +1,24 @@
 // Reading into a lent buffer, to the input's end or the buffer's.
 #![tactic(auto)]
 
-ghost use Rattle.input.specs.Reading.{ReadInto};
+ghost use Rattle.input.specs.Reading.{ReadInto, Brings};
 
+use std::io;
 use std::io::Read;
 
-// What reading gave.
-#[derive(Clone, Copy)]
-pub enum Input {
-    // So many bytes, at the start of the buffer.
-    Bytes(usize),
-    Failed,
-}
-
-// One read, which may bring only some of what is there, and nothing at the end.
-fn read_some<R: Read>(reader: &mut R, buffer: &mut [u8]) -> Input
-    ensures { ReadInto buffer.new result }
-{
-    match reader.read(buffer) {
-        Ok(got) => Input::Bytes(got),
-        Err(_) => Input::Failed,
-    }
-}
-
-pub fn read<R: Read>(reader: &mut R, buffer: &mut [u8]) -> Input
-    ensures { ReadInto buffer.new result }
+// How many bytes stand at the start of the buffer now, which stops at its end and at the input's.
+pub fn read<R: Read>(reader: &mut R, buffer: &mut [u8]) -> io::Result<usize>
+    ensures within { ReadInto buffer.new result }
+    ensures bytes { Brings (R.remaining reader.old) (R.remaining reader.new) buffer.new result }
 {
     let mut at = 0;
+    // No range goes over `at`: it moves on by what a read brings, which may be only some of what is there, and is nothing at the end.
     while at < buffer.len() {
-        let Input::Bytes(more) = read_some(reader, &mut buffer[at..]) else {
-            return Input::Failed;
-        };
+        let more = reader.read(&mut buffer[at..])?;
         if more == 0 {
-            return Input::Bytes(at);
+            return Ok(at);
         }
         at += more;
     }
-    Input::Bytes(at)
+    Ok(at)
 }

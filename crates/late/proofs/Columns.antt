@@ -3,10 +3,9 @@ use mathlib.Core.Path.{◌≡◌, refl, sym, ◌∙◌}
 use mathlib.Core.Bool.{true, cond, ◌&&◌, and-false}
 use mathlib.Core.List.{List}
 use Prim.Native.Nat.{ℕ, zero, suc, ◌+◌, ◌*◌, ◌/◌, ◌%◌, ◌<◌, ◌≤◌}
-use native.Mathlib.Numerals.{add-one}
 use native.Mathlib.Omega.{arith}
 use lib.Dec.{eqb, ltb}
-use lib.ListN.{length, get_or, set, drop, length-set}
+use lib.ListN.{length, get_or, drop, length-set}
 use lib.Seq.{drop-set-lt, set-get_or}
 use borrow.Author.Tests.{eq-eqb, lt-ltb, le-ltb, ltb-true, ltb-false}
 use Rattle.events.proofs.Tests.{bool, same}
@@ -15,17 +14,6 @@ use Rattle.tables.proofs.Lent.{shown_length, get_or-set, eqb_cell}
 use Rattle.late.specs.Steps.{cleared}
 
 module _ (d : List ℕ) (w : ℕ) where
-  pub cleared_none : d ≡ cleared d w 0
-  unfolding cleared
-  cleared_none = refl
-
-  pub cleared_more : (l : List ℕ) (j f : ℕ) → l ≡ cleared d w f → j ≡ 16 * f + w → set l j 0 ≡ cleared d w (f + 1)
-  unfolding cleared
-  cleared_more l j f q p = rw (add-one, q, p)
-
-  pub cleared_all : (l : List ℕ) (n f : ℕ) → l ≡ cleared d w f → f ≤ n → n ≤ f → l ≡ cleared d w n
-  cleared_all l n f q a b = let e : f ≡ n = omega arith in rw (← e) q
-
   pub length-cleared : (n : ℕ) → length (cleared d w n) ≡ length d
   unfolding cleared
   length-cleared zero = refl

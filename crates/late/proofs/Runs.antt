@@ -1,11 +1,9 @@
 -- The finder's loop: what holds before event n, and what each way on gives.
-use mathlib.Core.Path.{◌≡◌, sym, ◌∙◌, ap}
+use mathlib.Core.Path.{◌≡◌, refl, sym, ◌∙◌}
 use mathlib.Core.List.{List, []}
 use Prim.Native.Nat.{ℕ, ◌+◌, ◌<◌, ◌≤◌}
 use native.Mathlib.Omega.{arith}
 use lib.ListN.{length}
-use Rattle.sorts.specs.declared.Worker.{Worker}
-use Rattle.sorts.specs.declared.Field.{Field}
 use Rattle.events.specs.declared.Event.{Event}
 use Rattle.events.specs.declared.Deed.{Deed}
 use Rattle.events.specs.Acts.{Act, History, deed_of, acts_of, before}
@@ -18,19 +16,20 @@ use Rattle.events.proofs.Walks.{not_both}
 use Rattle.events.proofs.Late.{LateLooked, passed, stopped, late_looked, EndLooked, all_passed, one_stopped, end_looked}
 use Rattle.events.proofs.Plain.{late_plain}
 use Rattle.recording.specs.declared.Counts.{Counts}
-use Rattle.recording.specs.File.{field_label, event_at, events_in}
+use Rattle.recording.specs.File.{Accepted, event_at, events_in}
 use Rattle.recording.proofs.Guarantee.{Guarantee, guarantee}
-use Rattle.flags.specs.Flags.{flags_from, first_flag}
+use Rattle.flags.specs.Flags.{first_flag}
 use Rattle.flags.proofs.Flags.{plain_in_file, accepted_first_flag}
-use Rattle.tables.specs.declared.Verdict.{Verdict}
-use Rattle.tables.specs.declared.Verdict.TheVariants.{Accepted, Reported}
+use Rattle.tables.specs.declared.Report.{Report}
 use Rattle.tables.specs.Lent.{cells}
-use Rattle.tables.specs.Answers.{verdict_of}
+use Rattle.tables.specs.Answers.{report_of, sort_number}
 use Rattle.tables.specs.Finds.{acts_in, late_of, shown_by}
 use Rattle.tables.proofs.Lent.{shown_length}
 use Rattle.tables.proofs.Files.{deed_at, file_sound, file_deed, file_does}
 use Rattle.tables.proofs.Runs.{Sees, Reached, Course, reached_start, reached_next, reached_stop, reached_end, now_within, event_within, history_next, history_stop, history_end}
+use Rattle.stale.specs.declared.Logs.{Logs}
 use Rattle.stale.specs.Stale.{stale_field_by}
+use Rattle.late.specs.declared.Tables.{Tables}
 use Rattle.late.specs.Steps.{Room, Stepped}
 use Rattle.late.specs.Runs.{Shows, Ready, Ran}
 use Rattle.late.proofs.Shown.{room_shown, end_shown, step_says, step_passed, step_stopped}
@@ -54,153 +53,136 @@ late_sees W F few = record {
 abbrev end : ℕ → ℕ → History → ℕ → papers.Verdict
 end W F h n = end_by (stale_field F h) n 0 W
 
--- the events before n were passed and are entered; the tables were S₀, Wr₀, Vr₀, Lg₀ at the start
-pub record Running (file : List ℕ) (counts : Counts) (S₀ Wr₀ Vr₀ Lg₀ S Wr Vr Lg : List ℕ) (n : ℕ) : Type 0 where
+-- the events before n were passed and are entered; the tables were lent as t₀
+pub record Running (file : List ℕ) (counts : Counts) (t₀ t : Tables) (n : ℕ) : Type 0 where
   pub low : n ≤ counts.events
   pub short : counts.events ≤ 16000
-  pub so_far : Reached (late_look (first_flag file)) (end counts.workers (first_flag file)) file n
-  pub shows : Shows counts.workers (before [] (acts_in file) n) S₀ Wr₀ Vr₀ Lg₀ S Wr Vr Lg
-  pub stretch_length : length S ≡ length S₀
-  pub writer_length : length Wr ≡ length Wr₀
-  pub version_length : length Vr ≡ length Vr₀
-  pub log_length : length Lg ≡ length Lg₀
+  pub so_far : Reached (late_look t₀.plain) (end t₀.workers t₀.plain) file n
+  pub shows : Shows (before [] (acts_in file) n) t₀ t
 
--- the lengths are what the tables shown say
-running : (file : List ℕ) (counts : Counts) (S₀ Wr₀ Vr₀ Lg₀ S Wr Vr Lg : List ℕ) (n : ℕ) → n ≤ counts.events → counts.events ≤ 16000
-    → Reached (late_look (first_flag file)) (end counts.workers (first_flag file)) file n
-    → Shows counts.workers (before [] (acts_in file) n) S₀ Wr₀ Vr₀ Lg₀ S Wr Vr Lg
-    → Running file counts S₀ Wr₀ Vr₀ Lg₀ S Wr Vr Lg n
-running file counts S₀ Wr₀ Vr₀ Lg₀ S Wr Vr Lg n l k p shows = record {
-  low = l;
-  short = k;
-  so_far = p;
-  shows = shows;
-  stretch_length = shows.stretch.same_length;
-  writer_length = shows.writer.same_length;
-  version_length = shows.version.same_length;
-  log_length = shows.log.same_length;
-}
+module _ (file : List ℕ) (counts : Counts) (t₀ : Tables) (ready : Ready file counts t₀) where
+  checked : Accepted file counts
+  checked = ready.meant.checked
 
-module _ (file : List ℕ) (counts : Counts) (S₀ Wr₀ Vr₀ Lg₀ : List ℕ) (ready : Ready file counts S₀ Wr₀ Vr₀ Lg₀) where
   good : Guarantee file counts
-  good = guarantee file counts ready.checked
+  good = guarantee file counts checked
 
-  course : Course (late_look (first_flag file)) (end counts.workers (first_flag file)) counts.workers (first_flag file) file counts
-  course = record { sees = late_sees counts.workers (first_flag file) good.few_workers; good = good; sound = file_sound file counts good }
+  -- the tables' worker count, and the number of plain fields, which the walks are over
+  workers : t₀.workers ≡ counts.workers
+  workers = ready.meant.workers
 
-  -- the fields that the walks are over
-  few_plain : first_flag file ≤ 512
-  few_plain = omega (arith, plain_in_file file, ready.checked.fields, good.few_fields)
+  plain : t₀.plain ≡ first_flag file
+  plain = accepted_first_flag file counts t₀.plain checked ready.meant.plain
 
-  -- and leaving out the others changes no verdict
-  whole : late_verdict counts.workers (first_flag file) (first_flag file) (events_in file) ≡ late_of file
+  few : t₀.workers ≤ 16
+  few = rw workers good.few_workers
+
+  fit : t₀.plain ≤ 512
+  fit = omega (arith, plain, plain_in_file file, checked.fields, good.few_fields)
+
+  course : Course (late_look t₀.plain) (end t₀.workers t₀.plain) t₀.workers t₀.plain file counts
+  course =
+      rw (workers, plain)
+      (record { sees = late_sees counts.workers (first_flag file) good.few_workers; good = good; sound = file_sound file counts good })
+
+  -- leaving out the flags changes no verdict
+  whole : late_verdict t₀.workers t₀.plain (first_flag file) (events_in file) ≡ late_of file
   whole =
-      rw (← ready.checked.workers, ← ready.checked.fields)
-      (late_plain counts.workers counts.fields (first_flag file) (omega (arith, plain_in_file file, ready.checked.fields)) (events_in file) good.within)
+      rw (workers, plain, ← checked.workers, ← checked.fields)
+      (late_plain counts.workers counts.fields (first_flag file) (omega (arith, plain_in_file file, checked.fields)) (events_in file) good.within)
 
-  pub run_start : Running file counts S₀ Wr₀ Vr₀ Lg₀ S₀ Wr₀ Vr₀ Lg₀ 0
+  pub run_start : Running file counts t₀ t₀ 0
   unfolding before
-  run_start =
-      running file counts S₀ Wr₀ Vr₀ Lg₀ S₀ Wr₀ Vr₀ Lg₀ 0 (omega arith) good.few_events
-      (reached_start course)
-      ready.empty
+  run_start = record { low = omega arith; short = good.few_events; so_far = reached_start course; shows = ready.empty }
 
   -- before event n
-  module _ (S Wr Vr Lg : List ℕ) (n : ℕ) (run : Running file counts S₀ Wr₀ Vr₀ Lg₀ S Wr Vr Lg n) where
+  module _ (t : Tables) (n : ℕ) (run : Running file counts t₀ t n) where
     abbrev now : History
     now = before [] (acts_in file) n
 
-    inside : ActsWithin counts.workers (first_flag file) now
-    inside =
-        now_within course n run.so_far
+    inside : ActsWithin t₀.workers t₀.plain now
+    inside = now_within course n run.so_far
 
-    -- the counts and the lengths that the search at the end asks for
+    -- the lengths that the search at the end asks for
+    pub end_writer : 512 ≤ length t.writer.now
+    end_writer = shown_length 512 (writer_word now) t₀.writer.now t.writer.now run.shows.writer
+
+    pub end_version : 512 ≤ length t.version.now
+    end_version = shown_length 512 (version_word now) t₀.version.now t.version.now run.shows.version
+
+    pub end_log : 8192 ≤ length t.log.now
+    end_log = shown_length 8192 (cells (log_word now)) t₀.log.now t.log.now run.shows.log
+
     pub end_workers : counts.workers ≤ 16
     end_workers = good.few_workers
 
-    pub end_writer : 512 ≤ length Wr
-    end_writer = shown_length 512 (writer_word now) Wr₀ Wr run.shows.writer
+    pub end_fields : t₀.plain ≤ 512
+    end_fields = fit
 
-    pub end_version : 512 ≤ length Vr
-    end_version = shown_length 512 (version_word now) Vr₀ Vr run.shows.version
+    -- after the last event
+    pub run_end : (logs : Logs) (v : papers.Verdict) → counts.events ≤ n
+        → (logs.writer.now ≡ t.writer.now) × (logs.version.now ≡ t.version.now) × (logs.log.now ≡ t.log.now)
+        → v ≡ end_by (stale_field_by t₀.plain logs.log.now logs.version.now logs.writer.now) counts.events 0 counts.workers → Ran file v t₀ t
+    run_end logs v l words q = record {
+      answer = says ∙ sym (reached_end course n run.so_far l) ∙ whole;
+      shows = rw (all_shown (end_looked t₀.plain now n 0 t₀.workers)) run.shows;
+    }
+      where
+        here : counts.events ≡ n
+        here = omega (arith, run.low)
 
-    pub end_log : 8192 ≤ length Lg
-    end_log = shown_length 8192 (cells (log_word now)) Lg₀ Lg run.shows.log
+        says : v ≡ end_by (stale_field t₀.plain now) n 0 t₀.workers
+        says = q ∙ rw (here, ← workers, words.0, words.1, words.2) (end_shown t₀ t few fit now inside run.shows run.so_far.calm n)
 
-    -- with the number of plain fields that the flags gave
-    module _ (plain : ℕ) (p : plain ≡ flags_from (field_label file) counts.fields) where
-      first : plain ≡ first_flag file
-      first = accepted_first_flag file counts plain ready.checked p
+        all_shown : EndLooked t₀.plain now n 0 t₀.workers (end_by (stale_field t₀.plain now) n 0 t₀.workers) → shown_by file v ≡ now
+        all_shown (all_passed k _) = rw (says ∙ k) (history_end course checked n run.low l)
+        all_shown (one_stopped u f k _) = rw (says ∙ k)
 
-      pub end_fields : plain ≤ 512
-      end_fields = rw first few_plain
+    module _ (l : n < counts.events) where
+      abbrev event : List Act
+      event = acts_of (deed_at file n)
 
-      -- after the last event
-      pub run_end : (v : papers.Verdict) → counts.events ≤ n → v ≡ end_by (stale_field_by plain Lg Vr Wr) counts.events 0 counts.workers
-          → Ran file counts v S₀ Wr₀ Vr₀ Lg₀ S Wr Vr Lg
-      run_end v l q = record {
-        answer = says ∙ sym (reached_end course n run.so_far l) ∙ whole;
-        shows = rw (all_shown (end_looked (first_flag file) now n 0 counts.workers)) run.shows;
-      }
-        where
-          here : counts.events ≡ n
-          here = omega (arith, run.low)
+      event_inside : ActsWithin t₀.workers t₀.plain event
+      event_inside = event_within course n run.so_far l
 
-          says : v ≡ end_by (stale_field (first_flag file) now) n 0 counts.workers
-          says =
-              q ∙ rw (here, first)
-              (end_shown counts.workers (first_flag file) good.few_workers few_plain S₀ Wr₀ Vr₀ Lg₀ now inside run.so_far.calm S Wr Vr Lg run.shows n)
+      -- Event n does d. The loop has it from the event and the number of plain fields.
+      module _ (e : Event) (r : e ≡ event_at file n) (d : Deed) (k : d ≡ deed_of t₀.plain e) where
+        does : d ≡ deed_at file n
+        does = file_does file counts good checked n t₀.plain ready.meant.plain e r d k
 
-          all_shown : EndLooked (first_flag file) now n 0 counts.workers (end_by (stale_field (first_flag file) now) n 0 counts.workers) → shown_by file v ≡ now
-          all_shown (all_passed k _) =
-              rw (says ∙ k)
-              (history_end course ready.checked n run.low l)
-          all_shown (one_stopped u f k _) = rw (says ∙ k)
+        pub run_room : Room d t
+        run_room =
+            rw does
+            (room_shown t₀ t few fit (first_flag file) (events_in file) n (omega (arith, run.short, run.low)) (deed_at file n) (rw (workers, plain) (file_deed file counts good n l)) run.shows)
 
-      module _ (l : n < counts.events) where
-        abbrev event : List Act
-        event = acts_of (deed_at file n)
+        -- what the words say of event n is the late look at it
+        module _ (v : papers.Verdict) (t' : Tables) (step : Stepped n (acts_of d) v t t') where
+          stepped : Stepped n event v t t'
+          stepped = rw does at step
 
-        event_inside : ActsWithin counts.workers (first_flag file) event
-        event_inside =
-            event_within course n run.so_far l
+          says : v ≡ first_of (late_look t₀.plain now n) event
+          says = step_says t₀ t few fit now inside run.shows run.so_far.calm n event event_inside v t' stepped
 
-        -- Event n does d. The loop has it from the event and the number of plain fields.
-        module _ (e : Event) (t : e ≡ event_at file n) (d : Deed) (k : d ≡ deed_of plain e) where
-          does : d ≡ deed_at file n
-          does = file_does file counts good ready.checked n plain p e t d k
+          reported_stop : (m a w u f : ℕ) → v ≡ reported m a w u f → Ran file v t₀ t'
+          reported_stop m a w u f q = record {
+            answer = q ∙ sym (reached_stop course n run.so_far l m a w u f (sym says ∙ q)) ∙ whole;
+            shows =
+                rw (history_stop course n run.so_far l v m a w u f says q)
+                (step_stopped t₀ t few fit now inside run.shows run.so_far.calm n event event_inside v t' stepped m a w u f q);
+          }
 
-          pub run_room : Room plain d S Wr Vr Lg
-          run_room =
-              rw (first, does)
-              (room_shown counts.workers (first_flag file) (first_flag file) good.few_workers few_plain (events_in file) n (omega (arith, run.short)) (deed_at file n) (file_deed file counts good n l) S₀ Wr₀ Vr₀ Lg₀ S Wr Vr Lg run.shows)
+        pub run_stop : (v : papers.Verdict) (r : Report) (t' : Tables) → v ≡ report_of r → Stepped n (acts_of d) (report_of r) t t' → Ran file v t₀ t'
+        run_stop v r t' q step = rw q (reported_stop (report_of r) t' step r.event (sort_number r.sort) r.worker.0 r.other.0 r.field.0 refl)
 
-          module _ (r : Verdict) (S' Wr' Vr' Lg' : List ℕ)
-              (step : Stepped counts.workers plain n (acts_of d) (verdict_of r) S Wr Vr Lg S' Wr' Vr' Lg') where
-            -- what the words say of event n is the late look at it
-            stepped : Stepped counts.workers (first_flag file) n event (verdict_of r) S Wr Vr Lg S' Wr' Vr' Lg'
-            stepped = rw (first, does) at step
-
-            says : verdict_of r ≡ first_of (late_look (first_flag file) now n) event
-            says =
-                step_says counts.workers (first_flag file) good.few_workers few_plain now inside n event event_inside (verdict_of r) S₀ Wr₀ Vr₀ Lg₀ S Wr Vr Lg S' Wr' Vr' Lg' run.shows stepped run.so_far.calm
-
-            pub run_next : r ≡ Accepted → Running file counts S₀ Wr₀ Vr₀ Lg₀ S' Wr' Vr' Lg' (n + 1)
-            run_next o =
-                let later =
-                reached_next course n run.so_far l
-                (sym says ∙ ap verdict_of o) in
-                let history = history_next course n run.so_far l in
-                running file counts S₀ Wr₀ Vr₀ Lg₀ S' Wr' Vr' Lg' (n + 1) (omega arith) run.short later
-                (rw history
-                (step_passed counts.workers (first_flag file) good.few_workers few_plain now inside n event event_inside (verdict_of r) S₀ Wr₀ Vr₀ Lg₀ S Wr Vr Lg S' Wr' Vr' Lg' run.shows stepped (ap verdict_of o) (rw history at later.calm)))
-
-            pub run_stop : (m a : ℕ) (w u : Worker) (f : Field) → r ≡ Reported m a w u f → Ran file counts (verdict_of r) S₀ Wr₀ Vr₀ Lg₀ S' Wr' Vr' Lg'
-            run_stop m a w u f o =
-                let o' = ap verdict_of o in
-                record {
-                  answer = o' ∙ sym (reached_stop course n run.so_far l m a w.0 u.0 f.0 (sym says ∙ o')) ∙ whole;
-                  shows =
-                      rw (history_stop course n run.so_far l (verdict_of r) m a w.0 u.0 f.0 says o')
-                      (step_stopped counts.workers (first_flag file) good.few_workers few_plain now inside n event event_inside (verdict_of r) S₀ Wr₀ Vr₀ Lg₀ S Wr Vr Lg S' Wr' Vr' Lg' run.shows stepped m a w.0 u.0 f.0 o');
-                }
+        pub run_next : (t' : Tables) → Stepped n (acts_of d) accepted t t' → Running file counts t₀ t' (n + 1)
+        run_next t' step =
+            let later = reached_next course n run.so_far l (sym (says accepted t' step)) in
+            let history = history_next course n run.so_far l in
+            record {
+              low = omega arith;
+              short = run.short;
+              so_far = later;
+              shows =
+                  rw history
+                  (step_passed t₀ t few fit now inside run.shows run.so_far.calm n event event_inside accepted t' (stepped accepted t' step) refl (rw history at later.calm));
+            }

@@ -31,8 +31,10 @@ use Rattle.tables.specs.Steps.{writer_by, stretch_with, stretch_after, writer_wi
 use Rattle.tables.proofs.Lent.{shown_length, shown_same, shown_set, shown_cell, eqb_cell}
 use Rattle.tables.proofs.Shown.{shown_stretch, stretch_with_lem, writer_with_lem, writer_shown, stretch_at_start, zero_at_start}
 use Rattle.stale.specs.Stale.{stale_words, stale_field_by}
-use Rattle.late.specs.Steps.{late_meets, wrote_by, version_with, version_after, log_read, log_with, log_after, Sized, Room, Stepped}
+use Rattle.late.specs.declared.Tables.{Tables}
+use Rattle.late.specs.Steps.{late_meets, wrote_by, version_with, version_after, log_read, log_with, log_after, Sized, Lent, Room, Entered, Stepped}
 use Rattle.late.specs.Runs.{Shows}
+use Rattle.late.proofs.Laws.{lent_still}
 use Rattle.late.proofs.Columns.{shown_cleared}
 
 -- what no act has done, none had done before
@@ -42,19 +44,28 @@ calm_so_far h [] c = c
 calm_so_far h (a ∷ more) c = (calm_so_far (a ∷ h) more c).1
 
 -- the tables before event 0
-pub shows_start : (W : ℕ) (S₀ Wr₀ Vr₀ Lg₀ S₁ S Wr Vr Lg : List ℕ) → W ≤ 16 → Sized S₀ Wr₀ Vr₀ Lg₀ → S₁ ≡ filled 16 0 S₀ → S ≡ filled W 1 S₁
-    → Wr ≡ filled 512 0 Wr₀ → Vr ≡ filled 512 0 Vr₀ → Lg ≡ filled 8192 0 Lg₀ → Shows W [] S₀ Wr₀ Vr₀ Lg₀ S Wr Vr Lg
+pub shows_start : (S₁ : List ℕ) (t₀ t : Tables) → Lent t₀ t → t₀.workers ≤ 16 → Sized t₀ → S₁ ≡ filled 16 0 t₀.stretch.now
+    → t.stretch.now ≡ filled t₀.workers 1 S₁ → t.writer.now ≡ filled 512 0 t₀.writer.now → t.version.now ≡ filled 512 0 t₀.version.now
+    → t.log.now ≡ filled 8192 0 t₀.log.now → Shows [] t₀ t
 unfolding writer_word version_word log_word
-shows_start W S₀ Wr₀ Vr₀ Lg₀ S₁ S Wr Vr Lg few sized a b c d e = record {
-  stretch = stretch_at_start W S₀ S₁ S few sized.stretch a b;
-  writer = zero_at_start 512 (writer_word []) Wr₀ Wr sized.writer c (λ i. refl);
-  version = zero_at_start 512 (version_word []) Vr₀ Vr sized.version d (λ i. refl);
-  log = zero_at_start 8192 (cells (log_word [])) Lg₀ Lg sized.log e (λ i. refl);
+shows_start S₁ t₀ t lent few sized a b c d e = record {
+  lent = lent;
+  stretch = stretch_at_start t₀.workers t₀.stretch.now S₁ t.stretch.now few sized.stretch a b;
+  writer = zero_at_start 512 (writer_word []) t₀.writer.now t.writer.now sized.writer c (λ i. refl);
+  version = zero_at_start 512 (version_word []) t₀.version.now t.version.now sized.version d (λ i. refl);
+  log = zero_at_start 8192 (cells (log_word [])) t₀.log.now t.log.now sized.log e (λ i. refl);
 }
+
+-- the words alone
+record Words (W : ℕ) (h : History) (S₀ Wr₀ Vr₀ Lg₀ S Wr Vr Lg : List ℕ) : Type 0 where
+  pub stretch : Shown 16 (stretch_word W h) S₀ S
+  pub writer : Shown 512 (writer_word h) Wr₀ Wr
+  pub version : Shown 512 (version_word h) Vr₀ Vr
+  pub log : Shown 8192 (cells (log_word h)) Lg₀ Lg
 
 module _ (W F : ℕ) (few : W ≤ 16) (fit : F ≤ 512) (S₀ Wr₀ Vr₀ Lg₀ : List ℕ) where
   module _ (h : History) (inside : ActsWithin W F h) (calm : No OnWritten h) (S Wr Vr Lg : List ℕ)
-      (shows : Shows W h S₀ Wr₀ Vr₀ Lg₀ S Wr Vr Lg) where
+      (shows : Words W h S₀ Wr₀ Vr₀ Lg₀ S Wr Vr Lg) where
     wrote_shown : (w f : ℕ) → w < W → f < F → wrote_by S Wr w f ≡ wrote_last h w f
     unfolding wrote_by
     wrote_shown w f a b =
@@ -117,9 +128,9 @@ module _ (W F : ℕ) (few : W ≤ 16) (fit : F ≤ 512) (S₀ Wr₀ Vr₀ Lg₀ 
         (λ _ t. rw t))
 
     -- with an act entered they show the longer history
-    pub shows_with : (a : Act) → ActWithin W F a
-        → Shows W (a ∷ h) S₀ Wr₀ Vr₀ Lg₀ (stretch_with S a) (writer_with S Wr a) (version_with S Wr Vr a) (log_with F S Wr Vr Lg a)
-    shows_with a i = record {
+    words_with : (a : Act) → ActWithin W F a
+        → Words W (a ∷ h) S₀ Wr₀ Vr₀ Lg₀ (stretch_with S a) (writer_with S Wr a) (version_with S Wr Vr a) (log_with F S Wr Vr Lg a)
+    words_with a i = record {
       stretch = stretch_with_lem W few h S₀ S shows.stretch a (act_wider W F 512 fit a i);
       writer = writer_with_lem W few h S₀ S shows.stretch (acts_wider W F 512 fit h inside) Wr₀ Wr shows.writer a (act_wider W F 512 fit a i);
       version = version_with_lem a i;
@@ -150,22 +161,63 @@ module _ (W F : ℕ) (few : W ≤ 16) (fit : F ≤ 512) (S₀ Wr₀ Vr₀ Lg₀ 
     look_shown n (crosses w) i = rw (stale_field_shown w (omega arith))
 
     -- what an event meets by the words, and what is said after the last one
-    pub meets_shown : (n : ℕ) (e : List Act) → ActsWithin W F e → late_meets W F S Wr Vr Lg n e ≡ first_of (late_look F h n) e
-    unfolding late_meets
-    meets_shown n = first_ext (late_by (writer_by W S Wr) (stale_field_by F Lg Vr Wr) n) (late_look F h n) W F (look_shown n)
+    words_meet : (n : ℕ) (e : List Act) → ActsWithin W F e
+        → first_of (late_by (writer_by W S Wr) (stale_field_by F Lg Vr Wr) n) e ≡ first_of (late_look F h n) e
+    words_meet n = first_ext (late_by (writer_by W S Wr) (stale_field_by F Lg Vr Wr) n) (late_look F h n) W F (look_shown n)
 
-    pub end_shown : (n : ℕ) → end_by (stale_field_by F Lg Vr Wr) n 0 W ≡ end_by (stale_field F h) n 0 W
-    end_shown n = end_ext (stale_field_by F Lg Vr Wr) (stale_field F h) n 0 W (λ w l. stale_field_shown w (omega arith))
+    words_end : (n : ℕ) → end_by (stale_field_by F Lg Vr Wr) n 0 W ≡ end_by (stale_field F h) n 0 W
+    words_end n = end_ext (stale_field_by F Lg Vr Wr) (stale_field F h) n 0 W (λ w l. stale_field_shown w (omega arith))
 
   -- with an event's acts entered they show the longer history
-  pub shows_after : (h : History) (e : List Act) → ActsWithin W F h → ActsWithin W F e → No OnWritten (entered h e) → (S Wr Vr Lg : List ℕ)
-      → Shows W h S₀ Wr₀ Vr₀ Lg₀ S Wr Vr Lg
-      → Shows W (entered h e) S₀ Wr₀ Vr₀ Lg₀ (stretch_after S e) (writer_after S Wr e) (version_after S Wr Vr e) (log_after F S Wr Vr Lg e)
+  words_after : (h : History) (e : List Act) → ActsWithin W F h → ActsWithin W F e → No OnWritten (entered h e) → (S Wr Vr Lg : List ℕ)
+      → Words W h S₀ Wr₀ Vr₀ Lg₀ S Wr Vr Lg
+      → Words W (entered h e) S₀ Wr₀ Vr₀ Lg₀ (stretch_after S e) (writer_after S Wr e) (version_after S Wr Vr e) (log_after F S Wr Vr Lg e)
   unfolding entered stretch_after writer_after version_after log_after
-  shows_after h [] i j calm S Wr Vr Lg shows = shows
-  shows_after h (a ∷ more) i j calm S Wr Vr Lg shows =
-      shows_after (a ∷ h) more (j.0, i) j.1 calm (stretch_with S a) (writer_with S Wr a) (version_with S Wr Vr a) (log_with F S Wr Vr Lg a)
-      (shows_with h i (calm_so_far (a ∷ h) more calm).1 S Wr Vr Lg shows a j.0)
+  words_after h [] i j calm S Wr Vr Lg shows = shows
+  words_after h (a ∷ more) i j calm S Wr Vr Lg shows =
+      words_after (a ∷ h) more (j.0, i) j.1 calm (stretch_with S a) (writer_with S Wr a) (version_with S Wr Vr a) (log_with F S Wr Vr Lg a)
+      (words_with h i (calm_so_far (a ∷ h) more calm).1 S Wr Vr Lg shows a j.0)
+
+-- the tables
+module _ (t₀ t : Tables) (few : t₀.workers ≤ 16) (fit : t₀.plain ≤ 512) (h : History) (inside : ActsWithin t₀.workers t₀.plain h) (shows : Shows h t₀ t) where
+  words : Words t₀.workers h t₀.stretch.now t₀.writer.now t₀.version.now t₀.log.now t.stretch.now t.writer.now t.version.now t.log.now
+  words = record { stretch = shows.stretch; writer = shows.writer; version = shows.version; log = shows.log }
+
+  -- as long as no access has met another worker's open stretch that had written its field
+  module _ (calm : No OnWritten h) (n : ℕ) where
+    pub meets_shown : (e : List Act) → ActsWithin t₀.workers t₀.plain e → late_meets t n e ≡ first_of (late_look t₀.plain h n) e
+    meets_shown e i =
+        rw (shows.lent.workers, shows.lent.plain)
+        (words_meet t₀.workers t₀.plain few fit t₀.stretch.now t₀.writer.now t₀.version.now t₀.log.now h inside calm t.stretch.now t.writer.now t.version.now t.log.now words n e i)
+
+    pub end_shown : end_by (stale_field_by t₀.plain t.log.now t.version.now t.writer.now) n 0 t₀.workers ≡ end_by (stale_field t₀.plain h) n 0 t₀.workers
+    end_shown =
+        words_end t₀.workers t₀.plain few fit t₀.stretch.now t₀.writer.now t₀.version.now t₀.log.now h inside calm t.stretch.now t.writer.now t.version.now t.log.now words n
+
+  -- with an event's acts entered they show the longer history
+  pub shows_after : (t' : Tables) (e : List Act) → ActsWithin t₀.workers t₀.plain e → No OnWritten (entered h e) → Entered e t t' → Shows (entered h e) t₀ t'
+  shows_after t' e acts calm new =
+      let w =
+      words_after t₀.workers t₀.plain few fit t₀.stretch.now t₀.writer.now t₀.version.now t₀.log.now h e inside acts calm t.stretch.now t.writer.now t.version.now t.log.now words in
+      record {
+        lent = lent_still t₀ t t' shows.lent new.lent;
+        stretch = rw new.stretch w.stretch;
+        writer = rw new.writer w.writer;
+        version = rw new.version w.version;
+        log = rw (new.log, shows.lent.plain) w.log;
+      }
+
+  -- A step says what the late look says. If that is no report, its tables show the longer history; else they show h.
+  module _ (calm : No OnWritten h) (n : ℕ) (e : List Act) (acts : ActsWithin t₀.workers t₀.plain e) (v : Verdict) (t' : Tables) (stepped : Stepped n e v t t') where
+    pub step_says : v ≡ first_of (late_look t₀.plain h n) e
+    step_says = stepped.answer ∙ meets_shown calm n e acts
+
+    pub step_passed : v ≡ accepted → No OnWritten (entered h e) → Shows (entered h e) t₀ t'
+    step_passed q after = shows_after t' e acts after (rw q at stepped.entered)
+
+    pub step_stopped : (m s w u f : ℕ) → v ≡ reported m s w u f → Shows h t₀ t'
+    unfolding entered
+    step_stopped m s w u f q = shows_after t' [] tt calm (rw q at stepped.entered)
 
 -- each act raises a version by one at most
 version_next : (a : Act) (h : History) (f : ℕ) → version_word (a ∷ h) f ≤ version_word h f + 1
@@ -193,40 +245,23 @@ version_low P es (suc n) f =
     rw before_next (omega arith)
 
 -- on tables that show the events before event n, a step can be taken
-pub room_shown : (W F P : ℕ) → W ≤ 16 → F ≤ 512 → (es : List Event) (n : ℕ) → n ≤ 16000 → (d : Deed) → DeedWithin W F d
-    → (S₀ Wr₀ Vr₀ Lg₀ S Wr Vr Lg : List ℕ) → Shows W (before [] (recording_of P es) n) S₀ Wr₀ Vr₀ Lg₀ S Wr Vr Lg → Room F d S Wr Vr Lg
+pub room_shown : (t₀ t : Tables) → t₀.workers ≤ 16 → t₀.plain ≤ 512 → (P : ℕ) (es : List Event) (n : ℕ) → n ≤ 16000
+    → (d : Deed) → DeedWithin t₀.workers t₀.plain d → Shows (before [] (recording_of P es) n) t₀ t → Room d t
 unfolding stretch_word
-room_shown W F P few fit es n l d i S₀ Wr₀ Vr₀ Lg₀ S Wr Vr Lg shows = record {
-  fields = fit;
-  inside = deed_wider W 16 F few d i;
+room_shown t₀ t few fit P es n l d i shows = record {
+  fields = rw shows.lent.plain fit;
+  inside = rw shows.lent.plain (deed_wider t₀.workers 16 t₀.plain few d i);
   sized = record {
-    stretch = shown_length 16 (stretch_word W h) S₀ S shows.stretch;
-    writer = shown_length 512 (writer_word h) Wr₀ Wr shows.writer;
-    version = shown_length 512 (version_word h) Vr₀ Vr shows.version;
-    log = shown_length 8192 (cells (log_word h)) Lg₀ Lg shows.log;
+    stretch = shown_length 16 (stretch_word t₀.workers h) t₀.stretch.now t.stretch.now shows.stretch;
+    writer = shown_length 512 (writer_word h) t₀.writer.now t.writer.now shows.writer;
+    version = shown_length 512 (version_word h) t₀.version.now t.version.now shows.version;
+    log = shown_length 8192 (cells (log_word h)) t₀.log.now t.log.now shows.log;
   };
   numbers = λ w a.
       let q = stretch_low P es n w in
-      rw (shows.stretch.words w a) (bool (ltb w W) (λ t. rw t (omega arith)) (λ t. rw t (omega arith)));
-  versions = λ f a. rw (shows.version.words f (omega arith)) (omega (arith, version_low P es n f));
+      rw (shows.stretch.words w a) (bool (ltb w t₀.workers) (λ s. rw s (omega arith)) (λ s. rw s (omega arith)));
+  versions = λ f a. rw (shows.version.words f (omega (arith, shows.lent.plain))) (omega (arith, version_low P es n f));
 }
   where
     h : History
     h = before [] (recording_of P es) n
-
--- A step on tables that show h says what the late look says. If that is no report, its tables show the longer history; else they show h.
-module _ (W F : ℕ) (few : W ≤ 16) (fit : F ≤ 512) (h : History) (inside : ActsWithin W F h) (n : ℕ) (e : List Act) (acts : ActsWithin W F e) (v : Verdict)
-    (S₀ Wr₀ Vr₀ Lg₀ S Wr Vr Lg S' Wr' Vr' Lg' : List ℕ) (shows : Shows W h S₀ Wr₀ Vr₀ Lg₀ S Wr Vr Lg)
-    (stepped : Stepped W F n e v S Wr Vr Lg S' Wr' Vr' Lg') where
-  pub step_says : No OnWritten h → v ≡ first_of (late_look F h n) e
-  step_says calm = stepped.answer ∙ meets_shown W F few fit S₀ Wr₀ Vr₀ Lg₀ h inside calm S Wr Vr Lg shows n e acts
-
-  pub step_passed : v ≡ accepted → No OnWritten (entered h e) → Shows W (entered h e) S₀ Wr₀ Vr₀ Lg₀ S' Wr' Vr' Lg'
-  step_passed q calm =
-      rw (rw q at stepped.stretch, rw q at stepped.writer, rw q at stepped.version, rw q at stepped.log)
-      (shows_after W F few fit S₀ Wr₀ Vr₀ Lg₀ h e inside acts calm S Wr Vr Lg shows)
-
-  pub step_stopped : (m s w u f : ℕ) → v ≡ reported m s w u f → Shows W h S₀ Wr₀ Vr₀ Lg₀ S' Wr' Vr' Lg'
-  unfolding stretch_after writer_after version_after log_after
-  step_stopped m s w u f q =
-      rw (rw q at stepped.stretch, rw q at stepped.writer, rw q at stepped.version, rw q at stepped.log) shows

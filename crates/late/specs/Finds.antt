@@ -3,7 +3,7 @@ use Rattle.std.specs.Prelude.{◌≡◌, Bool, ◌&&◌, List, ℕ, leb, length}
 use Rattle.events.specs.Acts.{History}
 use Rattle.events.specs.Words.{stretch_word, writer_word, version_word, log_word}
 use Rattle.events.specs.Verdicts.{Verdict}
-use Rattle.recording.specs.declared.Fault.{Fault}
+use Rattle.recording.specs.Refusals.{Fault}
 use Rattle.recording.specs.File.{refusal, worker_count}
 use Rattle.tables.specs.Lent.{cells}
 use Rattle.tables.specs.Answers.{Said}

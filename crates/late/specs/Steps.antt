@@ -8,10 +8,12 @@ use Rattle.events.specs.Words.{once}
 use Rattle.events.specs.Verdicts.{Verdict, accepted, reported, first_of, late_by}
 use Rattle.tables.specs.Steps.{writer_by, stretch_with, stretch_after, writer_with, writer_after}
 use Rattle.stale.specs.Stale.{stale_field_by}
+use Rattle.late.specs.declared.Tables.{Tables}
 
 -- An event's acts, looked at as event n, before any of them is entered.
-unfoldable pub late_meets : ℕ → ℕ → List ℕ → List ℕ → List ℕ → List ℕ → ℕ → List Act → Verdict
-late_meets W F S Wr Vr Lg n e = first_of (late_by (writer_by W S Wr) (stale_field_by F Lg Vr Wr) n) e
+abbrev pub late_meets : Tables → ℕ → List Act → Verdict
+late_meets t n e =
+    first_of (late_by (writer_by t.workers t.stretch.now t.writer.now) (stale_field_by t.plain t.log.now t.version.now t.writer.now) n) e
 
 -- w's open stretch was the last writer of f: the writer word is 16 times the stretch number, plus the worker
 unfoldable pub wrote_by : List ℕ → List ℕ → ℕ → ℕ → Bool
@@ -50,37 +52,60 @@ log_after F S Wr Vr Lg (a ∷ more) =
     log_after F (stretch_with S a) (writer_with S Wr a) (version_with S Wr Vr a) (log_with F S Wr Vr Lg a) more
 
 -- every table has its full length
-pub record Sized (S Wr Vr Lg : List ℕ) : Type 0 where
-  pub stretch : 16 ≤ length S
-  pub writer : 512 ≤ length Wr
-  pub version : 512 ≤ length Vr
-  pub log : 8192 ≤ length Lg
+pub record Sized (t : Tables) : Type 0 where
+  pub stretch : 16 ≤ length t.stretch.now
+  pub writer : 512 ≤ length t.writer.now
+  pub version : 512 ≤ length t.version.now
+  pub log : 8192 ≤ length t.log.now
+
+-- the tables that were lent stay lent, with whatever words, for as many workers and fields
+pub record Lent (t₀ t : Tables) : Type 0 where
+  pub workers : t.workers ≡ t₀.workers
+  pub plain : t.plain ≡ t₀.plain
+  pub stretch : t.stretch.ghost_name ≡ t₀.stretch.ghost_name
+  pub writer : t.writer.ghost_name ≡ t₀.writer.ghost_name
+  pub version : t.version.ghost_name ≡ t₀.version.ghost_name
+  pub log : t.log.ghost_name ≡ t₀.log.ghost_name
 
 -- A step can be taken: the deed's numbers are within the limits, each stretch number joins with a worker in one word, and each version can
 -- be counted on.
-pub record Room (F : ℕ) (d : Deed) (S Wr Vr Lg : List ℕ) : Type 0 where
-  pub fields : F ≤ 512
-  pub inside : DeedWithin 16 F d
-  pub sized : Sized S Wr Vr Lg
-  pub numbers : (w : ℕ) → w < 16 → get_or S w 0 < 268435456
-  pub versions : (f : ℕ) → f < F → get_or Vr f 0 < 4294967295
+pub record Room (d : Deed) (t : Tables) : Type 0 where
+  pub fields : t.plain ≤ 512
+  pub inside : DeedWithin 16 t.plain d
+  pub sized : Sized t
+  pub numbers : (w : ℕ) → w < 16 → get_or t.stretch.now w 0 < 268435456
+  pub versions : (f : ℕ) → f < t.plain → get_or t.version.now f 0 < 4294967295
 
 -- the same of worker w's access of field f
-pub record Access (w f : ℕ) (S Wr Vr : List ℕ) : Type 0 where
+pub record Access (w f : ℕ) (t : Tables) : Type 0 where
   pub worker : w < 16
   pub field : f < 512
-  pub stretch : 16 ≤ length S
-  pub writer : 512 ≤ length Wr
-  pub version : 512 ≤ length Vr
-  pub number : get_or S w 0 < 268435456
-  pub counted : get_or Vr f 0 < 4294967295
+  pub sized : Sized t
+  pub number : get_or t.stretch.now w 0 < 268435456
+  pub counted : get_or t.version.now f 0 < 4294967295
 
--- the tables with acts entered: S, Wr, Vr, Lg, which were S₀, Wr₀, Vr₀, Lg₀
-pub record Entered (F : ℕ) (e : List Act) (S₀ Wr₀ Vr₀ Lg₀ S Wr Vr Lg : List ℕ) : Type 0 where
-  pub stretch : S ≡ stretch_after S₀ e
-  pub writer : Wr ≡ writer_after S₀ Wr₀ e
-  pub version : Vr ≡ version_after S₀ Wr₀ Vr₀ e
-  pub log : Lg ≡ log_after F S₀ Wr₀ Vr₀ Lg₀ e
+-- the same of worker w's crossing
+pub record Crossing (w : ℕ) (t : Tables) : Type 0 where
+  pub worker : w < 16
+  pub fields : t.plain ≤ 512
+  pub sized : Sized t
+  pub number : get_or t.stretch.now w 0 < 268435456
+
+-- worker w's stretch closed: its number has risen, and its log words are 0
+pub record Closed (w rise : ℕ) (t₀ t : Tables) : Type 0 where
+  pub lent : Lent t₀ t
+  pub stretch : t.stretch.now ≡ set t₀.stretch.now w (get_or t₀.stretch.now w 0 + rise)
+  pub writer : t.writer.now ≡ t₀.writer.now
+  pub version : t.version.now ≡ t₀.version.now
+  pub log : t.log.now ≡ cleared t₀.log.now w t₀.plain
+
+-- the tables with acts entered
+pub record Entered (e : List Act) (t₀ t : Tables) : Type 0 where
+  pub lent : Lent t₀ t
+  pub stretch : t.stretch.now ≡ stretch_after t₀.stretch.now e
+  pub writer : t.writer.now ≡ writer_after t₀.stretch.now t₀.writer.now e
+  pub version : t.version.now ≡ version_after t₀.stretch.now t₀.writer.now t₀.version.now e
+  pub log : t.log.now ≡ log_after t₀.plain t₀.stretch.now t₀.writer.now t₀.version.now t₀.log.now e
 
 -- The reported event is not entered: the acts of an event that are, after the verdict on it.
 abbrev pub passed : Verdict → List Act → List Act
@@ -88,9 +113,6 @@ passed accepted e = e
 passed (reported n s w u f) e = []
 
 -- event n with the acts e: the answer v, and the tables at exit
-pub record Stepped (W F n : ℕ) (e : List Act) (v : Verdict) (S₀ Wr₀ Vr₀ Lg₀ S Wr Vr Lg : List ℕ) : Type 0 where
-  pub answer : v ≡ late_meets W F S₀ Wr₀ Vr₀ Lg₀ n e
-  pub stretch : S ≡ stretch_after S₀ (passed v e)
-  pub writer : Wr ≡ writer_after S₀ Wr₀ (passed v e)
-  pub version : Vr ≡ version_after S₀ Wr₀ Vr₀ (passed v e)
-  pub log : Lg ≡ log_after F S₀ Wr₀ Vr₀ Lg₀ (passed v e)
+pub record Stepped (n : ℕ) (e : List Act) (v : Verdict) (t₀ t : Tables) : Type 0 where
+  pub answer : v ≡ late_meets t₀ n e
+  pub entered : Entered (passed v e) t₀ t

@@ -2,64 +2,37 @@
 // stretch closes.
 #![tactic(auto)]
 
-ghost use Rattle.std.specs.Prelude.{◌≡◌, ◌+◌, ◌<◌, ◌≤◌, [], length, get_or, set};
+ghost use Rattle.std.specs.Prelude.{◌≡◌, cond, ◌+◌, ◌<◌, ◌≤◌, [], ◌∷◌, length, get_or};
 ghost use Rattle.sorts.specs.Words.{joined};
-ghost use Rattle.events.specs.Acts.{acts_of, writes};
+ghost use Rattle.events.specs.Acts.{acts_of, reads, writes};
 ghost use Rattle.events.specs.Words.{once};
-ghost use Rattle.recording.specs.File.{Accepted};
-ghost use Rattle.tables.specs.Answers.{verdict_of, said_by};
-ghost use Rattle.late.specs.Steps.{late_meets, wrote_by, version_with, log_read, cleared, Sized, Room, Access, Entered, Stepped};
-ghost use Rattle.late.specs.Runs.{Shows, Ready, Ran};
+ghost use Rattle.tables.specs.Answers.{found_of, verdict_of, said_by};
+ghost use Rattle.tables.specs.Steps.{writer_by};
+ghost use Rattle.late.specs.Steps.{late_meets, wrote_by, cleared, Sized, Room, Access, Crossing, Closed, Entered, Stepped};
+ghost use Rattle.late.specs.Runs.{Shows, Meant, Ready, Ran};
 ghost use Rattle.late.specs.Finds.{Finds};
 
 use events::Deed;
-use recording::{Checked, Counts};
-use sorts::{Epoch, Field, Stretch, Version, Worker};
-use tables::{Answer, Other, Verdict};
+use recording::Counts;
+use recording::refusal::Reason;
+use sorts::{Field, Version, Worker};
+use stale::Logs;
+use tables::{Answer, Sort, Verdict, clash};
 
-// Was worker w's open stretch the last writer of field f?
-fn wrote_by(stretch: &[u32], writer: &[u32], w: Worker, f: Field) -> bool
-    requires { (w.0 < 16) × (f.0 < 512) × (16 ≤ length stretch.now) × (512 ≤ length writer.now) × (get_or stretch.now w.0 0 < 268435456) }
-    ensures { result ≡ wrote_by stretch.now writer.now w.0 f.0 }
-{
-    let i = w.0 as usize;
-    let j = f.0 as usize;
-    let open = Epoch {
-        stretch: Stretch(stretch[i]),
-        worker: w,
-    };
-    writer[j] == open.join()
-}
-
-// What event n meets, by what it does.
-fn look(
-    stretch: &[u32],
-    writer: &[u32],
-    version: &[u32],
-    log: &[u32],
+// The tables lent to the finder, how many workers the recording has, and how many plain fields. Nothing of a flag is ever logged, so the
+// walks are over the plain fields. `early` says why the methods that both finders have are not one.
+#[derive(Drop)]
+struct Tables<'a> {
     workers: u32,
     plain: u32,
-    n: u32,
-    d: Deed,
-) -> Verdict
-    requires { Room plain d stretch.now writer.now version.now log.now }
-    ensures { verdict_of result ≡ late_meets workers plain stretch.now writer.now version.now log.now n (acts_of d) }
-{
-    match d {
-        Deed::Reads(w, f) => match tables::other_writer(stretch, writer, workers, w, f) {
-            Other::Worker(u) => Verdict::Reported(n, 3, w, u, f),
-            Other::Nobody => Verdict::Accepted,
-        },
-        Deed::Writes(w, f) => match tables::other_writer(stretch, writer, workers, w, f) {
-            Other::Worker(u) => Verdict::Reported(n, 1, w, u, f),
-            Other::Nobody => Verdict::Accepted,
-        },
-        Deed::Crosses(w) => stale::at_crossing(writer, version, log, plain, w, n),
-        Deed::Signals(w) => stale::at_crossing(writer, version, log, plain, w, n),
-    }
+    stretch: &'a mut [u32],
+    writer: &'a mut [u32],
+    version: &'a mut [u32],
+    log: &'a mut [u32],
 }
 
 // The log word after a read at this version: it stays unless it is 0.
+#[tactic(auto, unfolding(events::specs::Words::once))]
 fn logged(log: u32, version: Version) -> u32
     requires { version.0 < 4294967295 }
     ensures { result ≡ once log (version.0 + 1) }
@@ -67,172 +40,178 @@ fn logged(log: u32, version: Version) -> u32
     if log == 0 { version.0 + 1 } else { log }
 }
 
-// Worker w's read of field f: a stretch does not log what it has written last itself.
-fn enter_read(
-    stretch: &[u32],
-    writer: &[u32],
-    version: &[u32],
-    log: &mut [u32],
-    w: Worker,
-    f: Field,
-)
-    requires { Access w.0 f.0 stretch.now writer.now version.now × (8192 ≤ length log.old) }
-    ensures { log.new ≡ log_read stretch.now writer.now version.now log.old w.0 f.0 }
+// The version word after a write at this version: a stretch that has written the field last counts once.
+fn counted(version: Version, again: bool) -> u32
+    requires { version.0 < 4294967295 }
+    ensures { result ≡ cond again version.0 (version.0 + 1) }
 {
-    let own = wrote_by(stretch, writer, w, f);
-    if own {
-        return;
-    }
-    let i = f.0 as usize;
-    let j = tables::place(w, f);
-    let seen = Version(version[i]);
-    log[j] = logged(log[j], seen);
-}
-
-// The version at worker w's write of field f, which is yet to be entered: a stretch counts once.
-fn count_write(stretch: &[u32], writer: &[u32], version: &mut [u32], w: Worker, f: Field)
-    requires { Access w.0 f.0 stretch.now writer.now version.old }
-    ensures { version.new ≡ version_with stretch.now writer.now version.old (writes w.0 f.0) }
-{
-    let counted = wrote_by(stretch, writer, w, f);
-    if counted {
-        return;
-    }
-    let i = f.0 as usize;
-    version[i] += 1;
-}
-
-// Worker w's write of field f: the version goes by the writer word before the write.
-fn enter_write(stretch: &[u32], writer: &mut [u32], version: &mut [u32], w: Worker, f: Field)
-    requires { Access w.0 f.0 stretch.now writer.old version.old }
-    ensures { (writer.new ≡ set writer.old f.0 (joined (get_or stretch.now w.0 0) w.0)) × (version.new ≡ version_with stretch.now writer.old version.old (writes w.0 f.0)) }
-{
-    count_write(stretch, writer, version, w, f);
-    tables::enter_write(stretch, writer, w, f);
+    if again { version.0 } else { version.0 + 1 }
 }
 
 // Worker w's log words of the plain fields become 0.
+#[tactic(auto, unfolding(crate::specs::Steps::cleared))]
 fn clear_log(log: &mut [u32], plain: u32, w: Worker)
     requires { (w.0 < 16) × (plain ≤ 512) × (8192 ≤ length log.old) }
     ensures { log.new ≡ cleared log.old w.0 plain }
 {
+    // By their number: the words of a worker stand sixteen apart.
     for f in 0..plain {
-        let j = tables::place(w, Field(f));
-        log[j] = 0;
+        log[tables::place(w, Field(f))] = 0;
     }
 }
 
-// Worker w's stretch closes: its number rises, and its log words become 0.
-fn close(stretch: &mut [u32], log: &mut [u32], plain: u32, w: Worker, rise: u32)
-    requires { (w.0 < 16) × (plain ≤ 512) × (16 ≤ length stretch.old) × (8192 ≤ length log.old) × (get_or stretch.old w.0 0 < 268435456) × (rise ≤ 2) }
-    ensures { (stretch.new ≡ set stretch.old w.0 (get_or stretch.old w.0 0 + rise)) × (log.new ≡ cleared log.old w.0 plain) }
-{
-    tables::close_stretch(stretch, w, rise);
-    clear_log(log, plain, w);
-}
-
-// What an event does that is not reported.
-fn enter(
-    stretch: &mut [u32],
-    writer: &mut [u32],
-    version: &mut [u32],
-    log: &mut [u32],
-    plain: u32,
-    d: Deed,
-)
-    requires { Room plain d stretch.old writer.old version.old log.old }
-    ensures { Entered plain (acts_of d) stretch.old writer.old version.old log.old stretch.new writer.new version.new log.new }
-{
-    match d {
-        Deed::Reads(w, f) => enter_read(stretch, writer, version, log, w, f),
-        Deed::Writes(w, f) => enter_write(stretch, writer, version, w, f),
-        Deed::Crosses(w) => close(stretch, log, plain, w, 1),
-        Deed::Signals(w) => close(stretch, log, plain, w, 2),
-    }
-}
-
-// Event n is looked at, and entered if it is not reported.
-fn step(
-    stretch: &mut [u32],
-    writer: &mut [u32],
-    version: &mut [u32],
-    log: &mut [u32],
-    workers: u32,
-    plain: u32,
-    n: u32,
-    d: Deed,
-) -> Verdict
-    requires { Room plain d stretch.old writer.old version.old log.old }
-    ensures { Stepped workers plain n (acts_of d) (verdict_of result) stretch.old writer.old version.old log.old stretch.new writer.new version.new log.new }
-{
-    let r = look(stretch, writer, version, log, workers, plain, n, d);
-    if let Verdict::Accepted = r {
-        enter(stretch, writer, version, log, plain, d);
-    }
-    r
-}
-
-// The events in their order, on tables that show that nothing has happened yet, and then the end. Nothing of a flag is ever logged, so
-// the walks are over the plain fields.
-fn run(
-    file: &[u8],
-    counts: Counts,
-    stretch: &mut [u32],
-    writer: &mut [u32],
-    version: &mut [u32],
-    log: &mut [u32],
-) -> Verdict
-    requires { Ready file.now counts stretch.old writer.old version.old log.old }
-    ensures { Ran file.now counts (verdict_of result) stretch.old writer.old version.old log.old stretch.new writer.new version.new log.new }
-{
-    let workers = counts.workers;
-    let plain = flags::first_flag(file, counts.fields);
-    for n in 0..counts.events {
-        let e = recording::event_at(file, counts, n);
-        let d = events::deed_of(plain, e);
-        let r = step(stretch, writer, version, log, workers, plain, n, d);
-        if let Verdict::Reported(_, _, _, _, _) = r {
-            return r;
+impl Tables<'_> {
+    // The words that tell of a stale read.
+    fn logs(&self) -> Logs<'_>
+        ensures { (result.writer.now ≡ self.now.writer.now) × (result.version.now ≡ self.now.version.now) × (result.log.now ≡ self.now.log.now) }
+    {
+        Logs {
+            writer: self.writer,
+            version: self.version,
+            log: self.log,
         }
     }
-    stale::at_end(writer, version, log, workers, plain, counts.events)
+
+    // The last writer of field f, if it is another worker than w and its stretch is open. This and the next hand their own tables on.
+    fn other_writer(&self, w: Worker, f: Field) -> Option<Worker>
+        requires { (f.0 < 512) × Sized self.now }
+        ensures { found_of result ≡ writer_by self.now.workers self.now.stretch.now self.now.writer.now w.0 f.0 }
+    {
+        tables::other_writer(self.stretch, self.writer, self.workers, w, f)
+    }
+
+    // The writer word of worker w's open stretch.
+    fn word_of(&self, w: Worker) -> u32
+        requires { (w.0 < 16) × Sized self.now × (get_or self.now.stretch.now w.0 0 < 268435456) }
+        ensures { result ≡ joined (get_or self.now.stretch.now w.0 0) w.0 }
+    {
+        tables::writer_word(self.stretch, w)
+    }
+
+    // Was worker w's open stretch the last writer of field f?
+    #[tactic(auto, unfolding(crate::specs::Steps::wrote_by))]
+    fn wrote_by(&self, w: Worker, f: Field) -> bool
+        requires { Access w.0 f.0 self.now }
+        ensures { result ≡ wrote_by self.now.stretch.now self.now.writer.now w.0 f.0 }
+    {
+        self.writer[f.0 as usize] == self.word_of(w)
+    }
+
+    // What event n meets, by what it does.
+    #[tactic(auto, unfolding(events::specs::Verdicts::first_of))]
+    fn look(&self, n: u32, d: Deed) -> Verdict
+        requires { Room d self.now }
+        ensures { verdict_of result ≡ late_meets self.now n (acts_of d) }
+    {
+        match d {
+            Deed::Reads(w, f) => clash(n, Sort::ReadAfterWrite, w, self.other_writer(w, f), f),
+            Deed::Writes(w, f) => clash(n, Sort::WriteAfterWrite, w, self.other_writer(w, f), f),
+            Deed::Crosses(w) | Deed::Signals(w) => {
+                stale::at_crossing(self.logs(), self.plain, w, n)
+            }
+        }
+    }
+
+    // Worker w's read of field f: a stretch does not log what it has written last itself.
+    #[tactic(auto, unfolding(tables::specs::Steps::stretch_with, tables::specs::Steps::writer_with, crate::specs::Steps::version_with, crate::specs::Steps::log_with, crate::specs::Steps::log_read, tables::specs::Steps::stretch_after, tables::specs::Steps::writer_after, crate::specs::Steps::version_after, crate::specs::Steps::log_after))]
+    fn enter_read(&mut self, w: Worker, f: Field)
+        requires { Access w.0 f.0 self.old }
+        ensures { Entered (reads w.0 f.0 ∷ []) self.old self.new }
+    {
+        if self.wrote_by(w, f) {
+            return;
+        }
+        let j = tables::place(w, f);
+        let seen = Version(self.version[f.0 as usize]);
+        self.log[j] = logged(self.log[j], seen);
+    }
+
+    // Worker w's write of field f: the version goes by the writer word before the write.
+    #[tactic(auto, unfolding(tables::specs::Steps::stretch_with, tables::specs::Steps::writer_with, crate::specs::Steps::version_with, crate::specs::Steps::log_with, tables::specs::Steps::stretch_after, tables::specs::Steps::writer_after, crate::specs::Steps::version_after, crate::specs::Steps::log_after))]
+    fn enter_write(&mut self, w: Worker, f: Field)
+        requires { Access w.0 f.0 self.old }
+        ensures { Entered (writes w.0 f.0 ∷ []) self.old self.new }
+    {
+        let i = f.0 as usize;
+        let again = self.wrote_by(w, f);
+        self.version[i] = counted(Version(self.version[i]), again);
+        self.writer[i] = self.word_of(w);
+    }
+
+    // Worker w's stretch closes: its number rises, and its log words become 0.
+    fn close(&mut self, w: Worker, rise: u32)
+        requires { Crossing w.0 self.old × (rise ≤ 2) }
+        ensures { Closed w.0 rise self.old self.new }
+    {
+        tables::close_stretch(self.stretch, w, rise);
+        clear_log(self.log, self.plain, w);
+    }
+
+    // What an event does that is not reported.
+    #[tactic(auto, using(tables::proofs::Laws::stretch_flag, crate::proofs::Columns::cleared_twice), unfolding(tables::specs::Steps::stretch_with, tables::specs::Steps::writer_with, crate::specs::Steps::version_with, crate::specs::Steps::log_with, tables::specs::Steps::stretch_after, tables::specs::Steps::writer_after, crate::specs::Steps::version_after, crate::specs::Steps::log_after))]
+    fn enter(&mut self, d: Deed)
+        requires { Room d self.old }
+        ensures { Entered (acts_of d) self.old self.new }
+    {
+        match d {
+            Deed::Reads(w, f) => self.enter_read(w, f),
+            Deed::Writes(w, f) => self.enter_write(w, f),
+            Deed::Crosses(w) => self.close(w, 1),
+            Deed::Signals(w) => self.close(w, 2),
+        }
+    }
+
+    // Event n by the words alone: it is looked at, and entered if it is not reported.
+    #[tactic(auto, unfolding(tables::specs::Steps::stretch_after, tables::specs::Steps::writer_after, crate::specs::Steps::version_after, crate::specs::Steps::log_after))]
+    fn step(&mut self, n: u32, d: Deed) -> Verdict
+        requires { Room d self.old }
+        ensures { Stepped n (acts_of d) (verdict_of result) self.old self.new }
+    {
+        self.look(n, d)?;
+        self.enter(d);
+        Ok(())
+    }
+
+    // The events in their order, on tables that show that nothing has happened yet, and then the end. `early` says why each finder has this
+    // loop for itself.
+    fn run(&mut self, file: &[u8], counts: Counts) -> Verdict
+        requires { Ready file.now counts self.old }
+        ensures { Ran file.now (verdict_of result) self.old self.new }
+    {
+        let plain = self.plain;
+        // By their number, since a report names it.
+        for n in 0..counts.events {
+            let e = recording::event_at(file, counts, n);
+            self.step(n, events::deed_of(plain, e))?;
+        }
+        stale::at_end(self.logs(), counts.workers, plain, counts.events)
+    }
+
+    // The tables before event 0: every worker is in stretch 1, and nothing has happened.
+    fn clear(&mut self)
+        requires { (self.old.workers ≤ 16) × Sized self.old }
+        ensures { Shows [] self.old self.new }
+    {
+        let workers = self.workers as usize;
+        tables::fill(self.stretch, tables::WORKERS, 0);
+        tables::fill(self.stretch, workers, 1);
+        tables::fill(self.writer, tables::FIELDS, 0);
+        tables::fill(self.version, tables::FIELDS, 0);
+        tables::fill(self.log, tables::PAIRS, 0);
+    }
+
+    // The search over an accepted file, on any tables of full length.
+    fn search(&mut self, file: &[u8], counts: Counts) -> Verdict
+        requires { Meant file.now counts self.old × Sized self.old }
+        ensures { Ran file.now (verdict_of result) self.old self.new }
+    {
+        self.clear();
+        self.run(file, counts)
+    }
 }
 
-// The tables before event 0: every worker is in stretch 1, and nothing has happened.
-fn clear(
-    stretch: &mut [u32],
-    writer: &mut [u32],
-    version: &mut [u32],
-    log: &mut [u32],
-    workers: u32,
-)
-    requires { (workers ≤ 16) × Sized stretch.old writer.old version.old log.old }
-    ensures { Shows workers [] stretch.old writer.old version.old log.old stretch.new writer.new version.new log.new }
-{
-    tables::fill(stretch, tables::WORKERS, 0);
-    tables::fill(stretch, workers as usize, 1);
-    tables::fill(writer, tables::FIELDS, 0);
-    tables::fill(version, tables::FIELDS, 0);
-    tables::fill(log, tables::PAIRS, 0);
-}
-
-// The search over an accepted file, on any tables of full length.
-fn search(
-    file: &[u8],
-    counts: Counts,
-    stretch: &mut [u32],
-    writer: &mut [u32],
-    version: &mut [u32],
-    log: &mut [u32],
-) -> Verdict
-    requires { Accepted file.now counts × Sized stretch.old writer.old version.old log.old }
-    ensures { Ran file.now counts (verdict_of result) stretch.old writer.old version.old log.old stretch.new writer.new version.new log.new }
-{
-    clear(stretch, writer, version, log, counts.workers);
-    run(file, counts, stretch, writer, version, log)
-}
-
-// The answer to any file and any tables. Test 11 comes first, then the file's own tests; nothing is written before all have passed.
+// The answer to any file and any tables, lent one by one as a C program lends them. Test 11 comes first, then the file's own tests; nothing
+// is written before all have passed.
 pub fn find(
     file: &[u8],
     stretch: &mut [u32],
@@ -242,22 +221,21 @@ pub fn find(
 ) -> Answer
     ensures { Finds file.now stretch.old writer.old version.old log.old (said_by result) stretch.new writer.new version.new log.new }
 {
-    if stretch.len() < tables::WORKERS {
-        return Answer::Refused(11, 0);
+    if stretch.len() < tables::WORKERS
+        || writer.len() < tables::FIELDS
+        || version.len() < tables::FIELDS
+        || log.len() < tables::PAIRS
+    {
+        return Err(Reason::ShortTable.at(0).into());
     }
-    if writer.len() < tables::FIELDS {
-        return Answer::Refused(11, 0);
-    }
-    if version.len() < tables::FIELDS {
-        return Answer::Refused(11, 0);
-    }
-    if log.len() < tables::PAIRS {
-        return Answer::Refused(11, 0);
-    }
-    match recording::check(file) {
-        Checked::Refused(number, place) => Answer::Refused(number, place),
-        Checked::Fine(counts) => {
-            tables::answer_to(search(file, counts, stretch, writer, version, log))
-        }
-    }
+    let counts = recording::check(file)?;
+    let mut lent = Tables {
+        workers: counts.workers,
+        plain: flags::first_flag(file, counts.fields),
+        stretch,
+        writer,
+        version,
+        log,
+    };
+    tables::answer_to(lent.search(file, counts))
 }

@@ -1,32 +1,34 @@
 -- The texts that a line is put together from, one after another, are the line.
 use mathlib.Core.Path.{◌≡◌}
+use mathlib.Core.Bool.{Bool, true, false}
+use lib.Dec.{eqb}
 use mathlib.Core.List.{List, [], ◌∷◌, ◌++◌}
 use Prim.Native.Nat.{ℕ, ◌+◌, ◌≤◌}
 use native.Mathlib.Omega.{arith}
 use lib.ListN.{length}
-use borrow.Author.Tests.{ne_eqb}
 use Rattle.recording.specs.declared.Counts.{Counts}
 use Rattle.recording.specs.File.{worker_label, field_label}
-use Rattle.events.specs.Verdicts.{reported}
-use Rattle.sorts.specs.declared.Worker.{Worker}
-use Rattle.sorts.specs.declared.Field.{Field}
-use Rattle.tables.specs.declared.Answer.{Answer}
-use Rattle.tables.specs.declared.Answer.TheVariants.{Refused, Accepted, Reported}
-use Rattle.tables.specs.Answers.{said_by}
+use Rattle.std.specs.Prelude.{Result, Ok, Err}
+use Rattle.recording.specs.declared.refusal.Refusal.{Refusal}
+use Rattle.recording.specs.Refusals.{number_of}
+use Rattle.tables.specs.declared.Report.{Report}
+use Rattle.tables.specs.declared.Objection.{Objection}
+use Rattle.tables.specs.declared.Objection.TheVariants.{Refused, Reported}
+use Rattle.tables.specs.Answers.{sort_number, report_of, said_by}
 use Rattle.byte_rows.specs.Characters.{ascii}
 use Rattle.lines.specs.Text.{decimal, rest, line, Puts, Starts}
 use Rattle.lines.specs.Lines.{trace_line, refused_line, other_label, verdict_line, answer_line, report_lines}
 use Rattle.lines.proofs.Text.{then_puts, looser, puts_starts}
 
 module _ (file : List ℕ) (u : ℕ) (lent : List ℕ) (at : ℕ) (out : List ℕ) (next : ℕ) where
-  pub other_unknown : u ≡ 16 → Puts 2 (ascii " -") lent at out next → Puts 21 (ascii " " ++ other_label file u) lent at out next
+  pub other_unknown : (b : Bool) → b ≡ eqb u 16 → b ≡ true → Puts 2 (ascii " -") lent at out next → Puts 21 (ascii " " ++ other_label file u) lent at out next
   unfolding other_label
-  other_unknown q p = rw q (looser 21 (omega arith) p)
+  other_unknown b e q p = rw (← e, q) (looser 21 (omega arith) p)
 
-  pub other_known : (u ≡ 16 → ⊥) → (label : ℕ) → label ≡ worker_label file u → Puts 21 (ascii " " ++ decimal label) lent at out next
+  pub other_known : (b : Bool) → b ≡ eqb u 16 → b ≡ false → (label : ℕ) → label ≡ worker_label file u → Puts 21 (ascii " " ++ decimal label) lent at out next
       → Puts 21 (ascii " " ++ other_label file u) lent at out next
   unfolding other_label
-  other_known z label q p = rw (ne_eqb u 16 z, ← q) p
+  other_known b e z label q p = rw (← e, z, ← q) p
 
 module _ (lent : List ℕ) (at : ℕ) (o₁ : List ℕ) (n₁ : ℕ) (o₂ : List ℕ) (n₂ : ℕ) (o₃ : List ℕ) (n₃ : ℕ) (o₄ : List ℕ) (n₄ : ℕ) where
   pub refused_put : (number place : ℕ) → at + 50 ≤ length lent → Puts 7 (ascii "refused") lent at o₁ n₁ → Puts 21 (ascii " " ++ decimal number) o₁ n₁ o₂ n₂
@@ -54,29 +56,30 @@ labels_put file w u f label label' lent at o₁ n₁ o₂ n₂ o₃ n₃ o₄ n�
 
 -- the line of an answer, after the finder's name
 module _ (file name lent : List ℕ) (at : ℕ) (o₁ : List ℕ) (n₁ : ℕ) (o₂ : List ℕ) (n₂ : ℕ) (small : length name ≤ 5) (room : at + 111 ≤ length lent) where
-  pub ok_put : (answer : Answer) → answer ≡ Accepted → Puts (length name) name lent at o₁ n₁ → Puts 4 (ascii " ok\n") o₁ n₁ o₂ n₂
+  pub ok_put : (answer : Result (Unit {0}) Objection) → answer ≡ Ok tt → Puts (length name) name lent at o₁ n₁ → Puts 4 (ascii " ok\n") o₁ n₁ o₂ n₂
       → Puts 111 (answer_line file name (said_by answer)) lent at o₂ n₂
   unfolding verdict_line line rest
   ok_put answer q word end = rw q (looser 111 (omega arith) (then_puts 4 word (omega arith) (λ _. end)))
 
-  pub reported_put : (n s w u f : ℕ) (o₃ : List ℕ) (n₃ : ℕ) (o₄ : List ℕ) (n₄ : ℕ)
-      → Puts (length name) name lent at o₁ n₁ → Puts 21 (ascii " " ++ decimal n) o₁ n₁ o₂ n₂ → Puts 21 (ascii " " ++ decimal s) o₂ n₂ o₃ n₃
-      → Puts 64 (rest (decimal (worker_label file w) ∷ other_label file u ∷ decimal (field_label file f) ∷ [])) o₃ n₃ o₄ n₄
-      → Puts 111 (verdict_line file name (reported n s w u f)) lent at o₄ n₄
+  pub reported_put : (r : Report) (s : ℕ) → s ≡ sort_number r.sort → (o₃ : List ℕ) (n₃ : ℕ) (o₄ : List ℕ) (n₄ : ℕ)
+      → Puts (length name) name lent at o₁ n₁ → Puts 21 (ascii " " ++ decimal r.event) o₁ n₁ o₂ n₂ → Puts 21 (ascii " " ++ decimal s) o₂ n₂ o₃ n₃
+      → Puts 64 (rest (decimal (worker_label file r.worker.0) ∷ other_label file r.other.0 ∷ decimal (field_label file r.field.0) ∷ [])) o₃ n₃ o₄ n₄
+      → Puts 111 (verdict_line file name (report_of r)) lent at o₄ n₄
   unfolding verdict_line line rest
-  reported_put n s w u f o₃ n₃ o₄ n₄ word a b labels =
-      then_puts 106 (looser 5 small word) room (λ r. then_puts 85 a r (λ r. then_puts 64 b r (λ _. labels)))
+  reported_put r s q o₃ n₃ o₄ n₄ word a b labels =
+      rw (← q) (then_puts 106 (looser 5 small word) room (λ r. then_puts 85 a r (λ r. then_puts 64 b r (λ _. labels))))
 
-  pub refused_answer : (answer : Answer) (number place : ℕ) → answer ≡ Refused number place → Puts 50 (refused_line number place) lent at o₁ n₁
+  pub refused_answer : (answer : Result (Unit {0}) Objection) (r : Refusal) (number : ℕ) → answer ≡ Err (Refused r) → number ≡ number_of r.reason
+      → Puts 50 (refused_line number r.place) lent at o₁ n₁
       → Puts 111 (answer_line file name (said_by answer)) lent at o₁ n₁
-  refused_answer answer number place q p = rw q (looser 111 (omega arith) p)
+  refused_answer answer r number q e p = rw (q, ← e) (looser 111 (omega arith) p)
 
-  pub reported_answer : (answer : Answer) (n s : ℕ) (w u : Worker) (f : Field) → answer ≡ Reported n s w u f
-      → Puts 111 (verdict_line file name (reported n s w.0 u.0 f.0)) lent at o₁ n₁
+  pub reported_answer : (answer : Result (Unit {0}) Objection) (r : Report) → answer ≡ Err (Reported r)
+      → Puts 111 (verdict_line file name (report_of r)) lent at o₁ n₁
       → Puts 111 (answer_line file name (said_by answer)) lent at o₁ n₁
-  reported_answer answer n s w u f q p = rw q p
+  reported_answer answer r q p = rw q p
 
-pub report_put : (file : List ℕ) (counts : Counts) (e l : Answer) (lent o₁ : List ℕ) (n₁ : ℕ) (o₂ : List ℕ) (n₂ : ℕ) (o₃ : List ℕ) (n₃ : ℕ) → length lent ≡ 512
+pub report_put : (file : List ℕ) (counts : Counts) (e l : Result (Unit {0}) Objection) (lent o₁ : List ℕ) (n₁ : ℕ) (o₂ : List ℕ) (n₂ : ℕ) (o₃ : List ℕ) (n₃ : ℕ) → length lent ≡ 512
     → Puts 69 (trace_line counts) lent 0 o₁ n₁ → Puts 111 (answer_line file (ascii "early") (said_by e)) o₁ n₁ o₂ n₂
     → Puts 111 (answer_line file (ascii "late") (said_by l)) o₂ n₂ o₃ n₃
     → Starts (report_lines file counts (said_by e) (said_by l)) lent o₃ n₃

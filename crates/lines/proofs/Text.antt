@@ -1,14 +1,14 @@
 -- Laws of text put into a buffer, and of decimal numbers.
-use mathlib.Core.Path.{◌≡◌, refl, sym, ◌∙◌}
+use mathlib.Core.Path.{◌≡◌, refl, sym, ◌∙◌, ap}
 use mathlib.Core.Bool.{Bool, true, false}
-use mathlib.Core.List.{List, [], ◌∷◌, ◌++◌}
+use mathlib.Core.List.{List, [], ◌∷◌, ◌++◌, append_assoc}
 use Prim.Native.Nat.{ℕ, zero, suc, ◌+◌, ◌-◌, ◌/◌, ◌%◌, ◌^◌, ◌<◌, ◌≤◌}
 use native.Mathlib.Nat.{mod-eq_of_lt, mod-lt, one-le-pow, pow-suc, pow-le-pow_right}
-use native.Mathlib.Numerals.{add-one}
 use native.Mathlib.Omega.{arith}
 use lib.Dec.{leb}
-use lib.ListN.{length, get_or, set, take, drop, length-append, take-append-drop}
-use lib.Seq.{paste, paste-zero, paste-suc, take_at, drop_at, take_all}
+use lib.ListN.{length, take, drop, length-append, take-append-drop}
+use lib.Seq.{take_at, drop_at, drop-drop}
+use borrow.Rule.Slice.PartMut.{put_mid}
 use borrow.Author.Tests.{lt-ltb, le-ltb, leb-true, leb-false}
 use Rattle.io.specs.Digits.{last_digits, IsDigitCount}
 use Rattle.byte_rows.specs.Buffer.{put}
@@ -16,26 +16,14 @@ use Rattle.byte_rows.proofs.Buffer.{length-put, put_put}
 use Rattle.byte_rows.specs.Characters.{ascii}
 use Rattle.lines.specs.Text.{spelled, decimal, Puts, Starts}
 
--- the first i bytes of a text copied into a buffer
-unfoldable pub copied : List ℕ → ℕ → List ℕ → ℕ → List ℕ
-copied out at text i = paste out at text i
-
-module _ (lent : List ℕ) (at : ℕ) (text : List ℕ) where
-  pub copied_none : lent ≡ copied lent at text 0
-  unfolding copied
-  copied_none = paste-zero lent at text
-
-  pub copied_more : (out : List ℕ) (i : ℕ) → at + length text ≤ length lent → i < length text → out ≡ copied lent at text i
-      → set out (at + i) (get_or text i 0) ≡ copied lent at text (i + 1)
-  unfolding copied
-  copied_more out i room l q = rw (q, add-one) (paste-suc lent at text i 0 (omega arith) l)
-
-  pub copied_all : (out : List ℕ) (i : ℕ) → length text ≤ i → i ≤ length text → out ≡ copied lent at text i
-      → Puts (length text) text lent at out (at + length text)
-  unfolding copied put
-  copied_all out i a b q =
-      let z : i ≡ length text = omega arith in
-      record { bytes = rw (z, take_all (length text) text (omega arith)) at q; past = refl; short = omega arith }
+-- a text copied into its place in a buffer
+pub copied : (lent : List ℕ) (at k : ℕ) (text part : List ℕ) → at + length text ≤ length lent → part ≡ text → k ≡ length text
+    → Puts (length text) text lent at (put_mid at k lent part) (at + length text)
+unfolding put
+copied lent at k text part room q n =
+    let bytes : put_mid at k lent part ≡ put lent at text =
+    (λ i. take at lent ++ (q i ++ (ap (λ m. drop m (drop at lent)) n ∙ drop-drop (length text) at lent) i)) ∙ sym (append_assoc (take at lent) text _) in
+    record { bytes = bytes; past = refl; short = omega arith; whole = rw bytes (length-put lent at text room) }
 
 one_digit : (steps n : ℕ) → n < 10 → spelled steps n ≡ (48 + n) ∷ []
 unfolding spelled
@@ -82,16 +70,16 @@ few_digits k n l f = by (leb k 20) refl
 pub then_puts : (k : ℕ) {m : ℕ} {a b lent : List ℕ} {at : ℕ} {out : List ℕ} {next : ℕ} {out' : List ℕ} {next' : ℕ} → Puts m a lent at out next
     → at + (m + k) ≤ length lent → (next + k ≤ length out → Puts k b out next out' next') → Puts (m + k) (a ++ b) lent at out' next'
 then_puts k {m} {a} {b} {lent} {at} {out} {next} {out'} {next'} first room more =
-    let same : length out ≡ length lent = rw first.bytes (length-put lent at a (omega (arith, first.short))) in
-    let second = more (omega (arith, first.short, first.past)) in
+    let second = more (omega (arith, first.short, first.past, first.whole)) in
     record {
       bytes = second.bytes ∙ rw (first.bytes, first.past, put_put lent at a (omega (arith, first.short)) b);
       past = second.past ∙ rw (first.past, length-append) (omega arith);
       short = rw length-append (omega (arith, first.short, second.short));
+      whole = second.whole ∙ first.whole;
     }
 
 pub looser : (k : ℕ) {m : ℕ} {a lent : List ℕ} {at : ℕ} {out : List ℕ} {next : ℕ} → m ≤ k → Puts m a lent at out next → Puts k a lent at out next
-looser k l p = record { bytes = p.bytes; past = p.past; short = omega (arith, p.short) }
+looser k l p = record { bytes = p.bytes; past = p.past; short = omega (arith, p.short); whole = p.whole }
 
 -- a number after a space
 pub number_put : (n k : ℕ) (lent : List ℕ) (at : ℕ) (out : List ℕ) (next : ℕ) (text out' : List ℕ) (next' : ℕ) → at + 21 ≤ length lent → n < 2 ^ 64
@@ -109,7 +97,7 @@ puts_starts {m} {text} {lent} {out} {n} room p =
     let whole : n ≡ length text = omega (arith, p.past) in
     let says : take n out ≡ text = rw p.bytes (take_at text (drop (0 + length text) lent) n (omega arith)) in
     record {
-      counts = (rw p.bytes (rw (length-put lent 0 text (omega (arith, p.short))) (omega (arith, p.short))), rw says whole);
+      counts = (omega (arith, p.short, p.whole), rw says whole);
       says = says;
       others = rw (p.bytes, p.past) (drop_at text (drop (0 + length text) lent) (0 + length text) (omega arith));
     }

@@ -1,8 +1,8 @@
 -- What is printed for a file: trace, early and late lines, or the one line of a refusal.
 use Rattle.std.specs.Prelude.{true, cond, List, [], ◌∷◌, ◌++◌, ℕ, eqb}
 use Rattle.events.specs.Verdicts.{Verdict, accepted, reported}
-use Rattle.recording.specs.declared.Fault.{Fault}
-use Rattle.recording.specs.declared.Fault.TheVariants.{Fine, Refused}
+use Rattle.std.specs.Prelude.{Ok, Err}
+use Rattle.recording.specs.Refusals.{Fault, number_of}
 use Rattle.recording.specs.declared.Counts.{Counts}
 use Rattle.recording.specs.File.{refusal, counts_in, worker_label, field_label}
 use Rattle.tables.specs.Answers.{Said, judged}
@@ -40,8 +40,8 @@ report_lines file counts e l = trace_line counts ++ (answer_line file (ascii "ea
 
 -- the one line of a refused file, or the three lines of any other
 unfoldable pub printed_after : Fault → List ℕ → List ℕ
-printed_after (Refused number place) file = refused_line number place
-printed_after Fine file = report_lines file (counts_in file) (judged (early_of file)) (judged (late_of file))
+printed_after (Err r) file = refused_line (number_of r.reason) r.place
+printed_after (Ok done) file = report_lines file (counts_in file) (judged (early_of file)) (judged (late_of file))
 
 -- all that is printed for a file
 unfoldable pub printed : List ℕ → List ℕ

@@ -3,6 +3,7 @@ use Rattle.std.specs.Prelude.{◌≡◌, cond, List, [], ◌∷◌, ◌++◌, �
 use Prim.Native.Char.{code}
 use Rattle.io.specs.Counts.{IsPrefixLen}
 use Rattle.byte_rows.specs.Buffer.{put}
+use Rattle.lines.specs.declared.Page.{Page}
 use Rattle.byte_rows.specs.Characters.{ascii}
 
 abbrev pub digit : ℕ → ℕ
@@ -31,6 +32,12 @@ pub record Puts (most : ℕ) (text lent : List ℕ) (at : ℕ) (out : List ℕ) 
   pub bytes : out ≡ put lent at text
   pub past : next ≡ at + length text
   pub short : length text ≤ most
+  pub whole : length out ≡ length lent
+
+-- The same of a page, which is over the same buffer as before.
+pub record PutsOn (most : ℕ) (text : List ℕ) (old new : Page) : Type 0 where
+  pub puts : Puts most text old.bytes.now old.at new.bytes.now new.at
+  pub same_buffer : new.bytes.ghost_name ≡ old.bytes.ghost_name
 
 -- The first n bytes of the buffer are the text, and all its other bytes are as they were lent.
 pub record Starts (text lent out : List ℕ) (n : ℕ) : Type 0 where

@@ -1,8 +1,8 @@
 -- The answers of the finders and of the writer as rows of six numbers, for a program in another language.
-use Rattle.std.specs.Prelude.{◌≡◌, List, [], ◌∷◌, ℕ}
+use Rattle.std.specs.Prelude.{◌≡◌, Result, Ok, Err, List, [], ◌∷◌, ℕ}
 use Rattle.events.specs.Verdicts.{accepted, reported}
-use Rattle.writing.specs.declared.Written.{Written}
-use Rattle.writing.specs.declared.Written.TheVariants.{Refused, Bytes}
+use Rattle.recording.specs.declared.refusal.Refusal.{Refusal}
+use Rattle.recording.specs.Refusals.{number_of}
 use Rattle.writing.specs.Writing.{Rows, writer_says, Writes}
 use Rattle.tables.specs.Answers.{Said, refused, judged}
 use Rattle.tables.specs.Finds.{said}
@@ -34,9 +34,12 @@ module _ (file S₀ Wr₀ Vr₀ Lg₀ : List ℕ) where
     pub finds : late.Finds file S₀ Wr₀ Vr₀ Lg₀ late_said S Wr Vr Lg
 
 -- 0 and the refusal's number and place; 1 and how many bytes were written; zeros fill the row
-abbrev pub written_row : Written → List ℕ
-written_row (Refused number place) = 0 ∷ number ∷ place ∷ 0 ∷ 0 ∷ 0 ∷ []
-written_row (Bytes n) = 1 ∷ n ∷ 0 ∷ 0 ∷ 0 ∷ 0 ∷ []
+abbrev pub refused_row : Refusal → List ℕ
+refused_row r = 0 ∷ number_of r.reason ∷ r.place ∷ 0 ∷ 0 ∷ 0 ∷ []
+
+abbrev pub written_row : Result ℕ Refusal → List ℕ
+written_row (Err r) = refused_row r
+written_row (Ok n) = 1 ∷ n ∷ 0 ∷ 0 ∷ 0 ∷ 0 ∷ []
 
 -- the row and the buffer are those of the writer's answer
 pub record WriteLinked (r : Rows) (lent buffer row : List ℕ) : Type 0 where

@@ -4,11 +4,13 @@
 ghost use Rattle.std.specs.Prelude.{◌≡◌};
 ghost use Rattle.tables.specs.Answers.{said_by};
 ghost use Rattle.writing.specs.Writing.{rows_given};
-ghost use Rattle.linked.specs.Rows.{row_of, written_row, EarlyLinked, LateLinked, WriteLinked};
+ghost use Rattle.linked.specs.Rows.{refused_row, row_of, written_row, EarlyLinked, LateLinked, WriteLinked};
 
-use tables::Answer;
-use writing::Written;
+use recording::refusal::Refusal;
+use tables::{Answer, Objection};
+use writing::{Events, Rows};
 
+// A C interface has numbers for an enum, and slices one by one for a struct of them.
 // What is answered, and then: number and place; nothing; or event, sort, worker, other worker and field.
 const REFUSED: u64 = 0;
 
@@ -19,21 +21,26 @@ const REPORTED: u64 = 2;
 // The writer's: how many bytes.
 const WRITTEN: u64 = 1;
 
-fn put_row(answer: Answer, row: &mut [u64; 6])
-    ensures { row.new ≡ row_of (said_by answer) }
+fn refused_row(r: Refusal) -> [u64; 6]
+    ensures { result ≡ refused_row r }
+{
+    [REFUSED, r.reason.number() as u64, r.place as u64, 0, 0, 0]
+}
+
+fn row_of(answer: Answer) -> [u64; 6]
+    ensures { result ≡ row_of (said_by answer) }
 {
     match answer {
-        Answer::Refused(number, place) => {
-            *row = [REFUSED, number as u64, place as u64, 0, 0, 0];
-        }
-        Answer::Accepted => {
-            *row = [ACCEPTED, 0, 0, 0, 0, 0];
-        }
-        Answer::Reported(n, s, w, u, f) => {
-            *row = [
-                REPORTED, n as u64, s as u64, w.0 as u64, u.0 as u64, f.0 as u64,
-            ];
-        }
+        Err(Objection::Refused(r)) => refused_row(r),
+        Ok(()) => [ACCEPTED, 0, 0, 0, 0, 0],
+        Err(Objection::Reported(r)) => [
+            REPORTED,
+            r.event as u64,
+            r.sort.number() as u64,
+            r.worker.0 as u64,
+            r.other.0 as u64,
+            r.field.0 as u64,
+        ],
     }
 }
 
@@ -46,8 +53,7 @@ pub fn bankmurmur_early(
 )
     ensures { EarlyLinked file.now stretch.old writer.old readers.old stretch.new writer.new readers.new row.new }
 {
-    let answer = early::find(file, stretch, writer, readers);
-    put_row(answer, row);
+    *row = row_of(early::find(file, stretch, writer, readers));
 }
 
 pub fn bankmurmur_late(
@@ -60,20 +66,15 @@ pub fn bankmurmur_late(
 )
     ensures { LateLinked file.now stretch.old writer.old version.old log.old stretch.new writer.new version.new log.new row.new }
 {
-    let answer = late::find(file, stretch, writer, version, log);
-    put_row(answer, row);
+    *row = row_of(late::find(file, stretch, writer, version, log));
 }
 
-fn put_written(answer: Written, row: &mut [u64; 6])
-    ensures { row.new ≡ written_row answer }
+fn written_row(answer: Result<usize, Refusal>) -> [u64; 6]
+    ensures { result ≡ written_row answer }
 {
     match answer {
-        Written::Refused(number, place) => {
-            *row = [REFUSED, number as u64, place as u64, 0, 0, 0];
-        }
-        Written::Bytes(n) => {
-            *row = [WRITTEN, n as u64, 0, 0, 0, 0];
-        }
+        Err(r) => refused_row(r),
+        Ok(n) => [WRITTEN, n as u64, 0, 0, 0, 0],
     }
 }
 
@@ -88,6 +89,14 @@ pub fn bankmurmur_write(
 )
     ensures { WriteLinked (rows_given worker_labels.now field_labels.now kinds.now workers.now fields.now) buffer.old buffer.new row.new }
 {
-    let answer = writing::write(worker_labels, field_labels, kinds, workers, fields, buffer);
-    put_written(answer, row);
+    let rows = Rows {
+        worker_labels,
+        field_labels,
+        events: Events {
+            kinds,
+            workers,
+            fields,
+        },
+    };
+    *row = written_row(writing::write(rows, buffer));
 }

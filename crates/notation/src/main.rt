@@ -1,24 +1,51 @@
 // The program: reads lines of the notation for recordings from standard input, and writes the recording file to standard output.
 #![tactic(auto)]
 
+ghost use Rattle.std.specs.Prelude.{◌≡◌};
 ghost use Rattle.spelling.specs.Notation.{said};
+ghost use Rattle.notation.specs.declared.NoFile.TheVariants.{Notation, Refused};
 ghost use Rattle.notation.specs.Program.{Makes};
 
-use input::Input;
-use spelling::Notation;
-use writing::Written;
+use recording::refusal::Refusal;
+use spelling::BadWord;
+use std::fmt;
+use writing::{Events, Rows};
 
-// What a text makes: a bad word begins at a place, or the writer refuses the rows, or so many bytes of a file.
-#[derive(Clone, Copy)]
-enum Made {
-    Bad(usize),
-    // Number and place.
-    Refused(u32, usize),
-    File(usize),
+// Why a text makes no file.
+#[derive(Clone, Copy, Debug, PartialEq, Eq)]
+enum NoFile {
+    Notation(BadWord),
+    // By the writer.
+    Refused(Refusal),
 }
 
-// The file of a text, at the start of the buffer.
-fn make(text: &[u8], buffer: &mut [u8]) -> Made
+impl From<BadWord> for NoFile {
+    ghost from_gives = { λ word e. e ≡ Notation word };
+
+    fn from(word: BadWord) -> NoFile {
+        NoFile::Notation(word)
+    }
+}
+
+impl From<Refusal> for NoFile {
+    ghost from_gives = { λ refusal e. e ≡ Refused refusal };
+
+    fn from(refusal: Refusal) -> NoFile {
+        NoFile::Refused(refusal)
+    }
+}
+
+impl fmt::Display for NoFile {
+    fn fmt<W: fmt::Write>(&self, f: &mut fmt::Formatter<W>) -> fmt::Result {
+        match self {
+            NoFile::Notation(bad) => write!(f, "notation {}", bad.place),
+            NoFile::Refused(r) => write!(f, "refused {} {}", r.reason.number(), r.place),
+        }
+    }
+}
+
+// The file of a text, so many bytes at the start of the buffer. Rows and buffer are arrays: there is no heap.
+fn make(text: &[u8], buffer: &mut [u8]) -> Result<usize, NoFile>
     ensures { Makes (said text.now) buffer.old buffer.new result }
 {
     let mut worker_labels = [0u32; 17];
@@ -26,50 +53,25 @@ fn make(text: &[u8], buffer: &mut [u8]) -> Made
     let mut kinds = [0u32; 16001];
     let mut workers = [0u32; 16001];
     let mut fields = [0u32; 16001];
-    match spelling::read(
+    let lengths = spelling::read(
         text,
         &mut worker_labels,
         &mut field_labels,
         &mut kinds,
         &mut workers,
         &mut fields,
-    ) {
-        Notation::Bad(place) => Made::Bad(place),
-        Notation::Rows(lengths) => {
-            let w = lengths.workers;
-            let f = lengths.fields;
-            let e = lengths.events;
-            match writing::write(
-                &worker_labels[0..w],
-                &field_labels[0..f],
-                &kinds[0..e],
-                &workers[0..e],
-                &fields[0..e],
-                buffer,
-            ) {
-                Written::Refused(number, place) => Made::Refused(number, place),
-                Written::Bytes(n) => Made::File(n),
-            }
-        }
-    }
-}
-
-// The line on standard error that says why there is no file.
-fn print_number(rt: &impl Eprint, n: usize) {
-    let _ = eprint!(rt; " {n}");
-}
-
-fn print_bad(rt: &impl Eprint, place: usize) {
-    let _ = eprint!(rt; "notation");
-    print_number(rt, place);
-    let _ = eprintln!(rt);
-}
-
-fn print_refused(rt: &impl Eprint, number: u32, place: usize) {
-    let _ = eprint!(rt; "refused");
-    print_number(rt, number as usize);
-    print_number(rt, place);
-    let _ = eprintln!(rt);
+    )?;
+    let events = lengths.events;
+    let rows = Rows {
+        worker_labels: &worker_labels[..lengths.workers],
+        field_labels: &field_labels[..lengths.fields],
+        events: Events {
+            kinds: &kinds[..events],
+            workers: &workers[..events],
+            fields: &fields[..events],
+        },
+    };
+    Ok(writing::write(rows, buffer)?)
 }
 
 // The file, in one piece.
@@ -79,13 +81,15 @@ fn print_file(rt: &(impl Print + Eprint), file: &[u8]) {
     }
 }
 
+// The file of a text, or a line on standard error that says why there is none.
 fn answer(rt: &(impl Print + Eprint), text: &[u8]) {
     // No file is longer: 6 + 2 * 16 + 2 * 512 + 4 * 16000.
     let mut buffer = [0u8; 65062];
     match make(text, &mut buffer) {
-        Made::Bad(place) => print_bad(rt, place),
-        Made::Refused(number, place) => print_refused(rt, number, place),
-        Made::File(n) => print_file(rt, &buffer[0..n]),
+        Err(reason) => {
+            let _ = eprintln!(rt; "{reason}");
+        }
+        Ok(n) => print_file(rt, &buffer[..n]),
     }
 }
 
@@ -93,9 +97,9 @@ fn answer(rt: &(impl Print + Eprint), text: &[u8]) {
 fn main(rt: HostRuntime) {
     let mut text = [0u8; spelling::MOST + 1];
     match input::read(&mut rt.stdin(), &mut text) {
-        Input::Failed => {
+        Err(_) => {
             let _ = eprintln!(rt; "notation: cannot read standard input");
         }
-        Input::Bytes(n) => answer(&rt, &text[0..n]),
+        Ok(n) => answer(&rt, &text[..n]),
     }
 }

@@ -1,27 +1,27 @@
 -- What each way through the functions answers.
-use mathlib.Core.Path.{◌≡◌, refl, sym, ◌∙◌}
-use mathlib.Core.Bool.{Bool, true, false, not, and-false}
+use mathlib.Core.Path.{◌≡◌, refl, sym, ◌∙◌, ap}
+use mathlib.Core.Bool.{Bool, true, false, not, cond, ◌||◌, and-false}
 use mathlib.Core.List.{List}
 use Prim.Native.Nat.{ℕ, ◌+◌, ◌*◌, ◌-◌, ◌<◌, ◌≤◌}
 use native.Mathlib.Omega.{arith}
 use lib.Dec.{eqb, ltb, leb}
-use lib.ListN.{length, get_or, get_or-eq_default}
-use borrow.Author.Tests.{lt-ltb, le-ltb, le-leb, lt-leb, ne_eqb}
+use lib.ListN.{length, get_or}
+use borrow.Author.Tests.{lt-ltb, le-ltb, le-leb, lt-leb, leb-true, ne_eqb}
 use Rattle.sorts.proofs.Counting.{one_left, none_left}
 use Rattle.events.specs.declared.Event.{Event}
-use Rattle.events.specs.declared.Event.TheVariants.{Read, Write, Crossing}
+use Rattle.events.specs.declared.Event.TheVariants as events
 use Rattle.recording.proofs.Guarantee.{guarantee}
-use Rattle.recording.proofs.Tests.{Labels, labels_good, counted_count, counted_refused, further, event_further}
-use Rattle.recording.specs.declared.Fault.{Fault}
-use Rattle.recording.specs.declared.Fault.TheVariants.{Fine, Refused}
+use Rattle.recording.proofs.Tests.{Labels, labels_good, answered_ok, answered_err, further, event_further}
+use Rattle.std.specs.Prelude.{Result, Ok, Err, Option, Some, None}
+use Rattle.recording.specs.declared.event.Kind.{Kind}
+use Rattle.recording.specs.declared.event.Kind.TheVariants.{Read, Write, Crossing}
+use Rattle.recording.specs.declared.refusal.Reason.{Reason}
+use Rattle.recording.specs.declared.refusal.Reason.TheVariants.{CutShort, WorkerCount, WorkerOrder, FieldCount, FieldOrder, EventCount, Kind as Of-kind, Worker, Field, ExtraBytes}
+use Rattle.recording.specs.declared.refusal.Refusal.{Refusal}
+use Rattle.recording.specs.Refusals.{Fault, fine, refused}
 use Rattle.recording.specs.declared.Entry.{Entry}
 use Rattle.recording.specs.declared.Counts.{Counts}
-use Rattle.recording.specs.declared.Checked.{Checked}
-use Rattle.recording.specs.declared.Checked.TheVariants.{Refused as Checked-refused, Fine as Checked-fine}
-use Rattle.recording.specs.declared.Counted.{Counted}
-use Rattle.recording.specs.declared.Counted.TheVariants.{Refused as Counted-refused, Count}
-use Rattle.recording.specs.declared.Step.TheVariants.{Next, End}
-use Rattle.recording.specs.Tests.{need, ◌then◌, rising, kind_allowed, field_allowed, event_place, event_tests, events_tests, section, label_section, event_section, end_test, events_to_end, events_at, file_tests, all_tests}
+use Rattle.recording.specs.Tests.{need, ◌then◌, rising, kind_allowed, kind_number, field_allowed, event_place, event_tests, events_tests, section, label_section, event_section, end_test, events_to_end, events_at, file_tests, all_tests}
 use Rattle.recording.specs.File.{number_at, label_at, entry_at, entries_at, worker_count, field_count, event_count, worker_label, field_label, entry_in, refusal, checked, event_of, event_at, Accepted, step_at}
 use Rattle.recording.specs.Parts.{labels_answer, events_answer, to_end_answer}
 
@@ -29,55 +29,55 @@ pub number_is : (s : List ℕ) (i low high r : ℕ) → low ≡ get_or s i 0 →
 unfolding number_at
 number_is s i low high r p q e = rw (← p, ← q) e
 
-pub label_first : (s : List ℕ) (at r : ℕ) → r ≡ number_at s at → r ≡ label_at s at 0
+pub label_number : (s : List ℕ) (at n r : ℕ) → r ≡ number_at s (at + 2 * n) → r ≡ label_at s at n
 unfolding label_at
-label_first s at r q = let z : at + 0 ≡ at = omega arith in rw z q
+label_number s at n r q = q
 
 -- labels looked at up to label n, follow - n of them to come, which answer x
-module _ (label : ℕ → ℕ) (at number follow n : ℕ) (x : Fault) (inv : rising label number at n (follow - n) ≡ x) where
-  pub labels_fall : (before later : ℕ) → n < follow → before ≡ label n → later ≡ label (n + 1) → later ≤ before → Refused number (at + 2 * (n + 1)) ≡ x
+module _ (label : ℕ → ℕ) (order : Reason) (at follow n : ℕ) (x : Fault) (inv : rising label order at n (follow - n) ≡ x) where
+  pub labels_fall : (before later : ℕ) → n < follow → before ≡ label n → later ≡ label (n + 1) → later ≤ before → refused order (at + 2 * (n + 1)) ≡ x
   unfolding rising ◌then◌ need
   labels_fall before later l q r m = rw (one_left n follow l, le-ltb (label n) (label (n + 1)) (omega arith)) at inv
 
   pub labels_rise : (before later : ℕ) → n < follow → before ≡ label n → later ≡ label (n + 1) → before < later
-      → rising label number at (n + 1) (follow - (n + 1)) ≡ x
+      → rising label order at (n + 1) (follow - (n + 1)) ≡ x
   unfolding rising ◌then◌ need
   labels_rise before later l q r m = rw (one_left n follow l, lt-ltb (label n) (label (n + 1)) (omega arith)) at inv
 
-  pub labels_end : follow ≤ n → Fine ≡ x
+  pub labels_end : follow ≤ n → fine ≡ x
   unfolding rising
   labels_end l = rw (none_left n follow l) at inv
-
-pub label_next : (s : List ℕ) (at n r : ℕ) → r ≡ number_at s (at + 2 * (n + 1)) → r ≡ label_at s at (n + 1)
-unfolding label_at
-label_next s at n r q = q
 
 pub entry_is : (s : List ℕ) (i kind worker field : ℕ) → kind ≡ get_or s i 0 → worker ≡ get_or s (i + 1) 0 → field ≡ number_at s (i + 2)
     → ◌≡◌ {A = Entry} (record { kind = kind; worker = worker; field = field }) (entry_at s i)
 unfolding entry_at
 entry_is s i kind worker field p q r = rw (p, q, r)
 
-module _ (kind : ℕ) where
-  pub kind_read : kind ≡ 1 → true ≡ kind_allowed kind
+-- a number as a kind
+module _ (number : ℕ) where
+  pub no_kind : (number ≡ 1 → ⊥) → (number ≡ 2 → ⊥) → (number ≡ 3 → ⊥) → kind_allowed number ≡ false
   unfolding kind_allowed
-  kind_read q = rw q
+  no_kind a b c = rw (ne_eqb number 1 a, ne_eqb number 2 b, ne_eqb number 3 c)
 
-  pub kind_write : kind ≡ 2 → true ≡ kind_allowed kind
-  unfolding kind_allowed
-  kind_write q = rw q
+kind_is : (kind : Kind) (number : ℕ) → kind_number kind ≡ number → kind_allowed number ≡ true
+unfolding kind_allowed
+kind_is Read number q = rw (← q)
+kind_is Write number q = rw (← q)
+kind_is Crossing number q = rw (← q)
 
-  pub kind_other : (kind ≡ 1 → ⊥) → (kind ≡ 2 → ⊥) → eqb kind 3 ≡ kind_allowed kind
-  unfolding kind_allowed
-  kind_other a b = rw (ne_eqb kind 1 a, ne_eqb kind 2 b)
+-- the field numbers that an event of a kind may have
+module _ (F field : ℕ) where
+  pub field_crossing : eqb field 0 ≡ field_allowed F (kind_number Crossing) field
+  unfolding field_allowed
+  field_crossing = refl
 
-  module _ (F field : ℕ) where
-    pub field_crossing : kind ≡ 3 → eqb field 0 ≡ field_allowed F kind field
-    unfolding field_allowed
-    field_crossing q = rw q
+  pub field_read : ltb field F ≡ field_allowed F (kind_number Read) field
+  unfolding field_allowed
+  field_read = refl
 
-    pub field_access : (kind ≡ 3 → ⊥) → ltb field F ≡ field_allowed F kind field
-    unfolding field_allowed
-    field_access q = rw (ne_eqb kind 3 q)
+  pub field_write : ltb field F ≡ field_allowed F (kind_number Write) field
+  unfolding field_allowed
+  field_write = refl
 
 not-true : (b : Bool) → not b ≡ true → b ≡ false
 not-true true e = let z : ◌≡◌ {A = ℕ} 0 1 = cc in absurd (omega arith)
@@ -88,37 +88,37 @@ not-false true e = refl
 not-false false e = let z : ◌≡◌ {A = ℕ} 0 1 = cc in absurd (omega arith)
 
 -- an event, test by test
-module _ (W F : ℕ) (e : Entry) (k : Bool) (q : k ≡ kind_allowed e.kind) where
-  pub kind_refused : not k ≡ true → Refused 7 0 ≡ event_tests W F e 0
+module _ (W F : ℕ) (e : Entry) where
+  pub kind_refused : kind_allowed e.kind ≡ false → refused Of-kind 0 ≡ event_tests W F e 0
   unfolding event_tests event_place ◌then◌ need
-  kind_refused a = rw (← q, not-true k a)
+  kind_refused q = rw q
 
-  module _ (a : not k ≡ false) where
-    pub worker_refused : W ≤ e.worker → Refused 8 1 ≡ event_tests W F e 0
+  module _ (kind : Kind) (q : kind_number kind ≡ e.kind) where
+    pub worker_refused : W ≤ e.worker → refused Worker 1 ≡ event_tests W F e 0
     unfolding event_tests event_place ◌then◌ need
-    worker_refused l = rw (← q, not-false k a, le-ltb e.worker W l)
+    worker_refused l = rw (kind_is kind e.kind q, le-ltb e.worker W l)
 
-    module _ (l : e.worker < W) (f : Bool) (p : f ≡ field_allowed F e.kind e.field) where
-      pub field_refused : not f ≡ true → Refused 9 2 ≡ event_tests W F e 0
+    module _ (l : e.worker < W) (f : Bool) (p : f ≡ field_allowed F (kind_number kind) e.field) where
+      pub field_refused : not f ≡ true → refused Field 2 ≡ event_tests W F e 0
       unfolding event_tests event_place ◌then◌ need
-      field_refused b = rw (← q, not-false k a, lt-ltb e.worker W l, ← p, not-true f b)
+      field_refused b = rw (kind_is kind e.kind q, lt-ltb e.worker W l, ← q, ← p, not-true f b)
 
-      pub event_fine : not f ≡ false → Fine ≡ event_tests W F e 0
+      pub event_fine : not f ≡ false → fine ≡ event_tests W F e 0
       unfolding event_tests ◌then◌ need
-      event_fine b = rw (← q, not-false k a, lt-ltb e.worker W l, ← p, not-false f b)
+      event_fine b = rw (kind_is kind e.kind q, lt-ltb e.worker W l, ← q, ← p, not-false f b)
 
 -- events looked at before event n, count - n of them to come, which answer x
 module _ (entry : ℕ → Entry) (at W F count n : ℕ) (x : Fault) (inv : events_tests W F entry at n (count - n) ≡ x) where
   module _ (e : Entry) (r : Fault) (l : n < count) (q : e ≡ entry n) (t : r ≡ event_tests W F e 0) where
-    pub events_refused : (number byte : ℕ) → r ≡ Refused number byte → Refused number (at + 4 * n + byte) ≡ x
+    pub events_refused : (refusal : Refusal) → r ≡ Err refusal → refused refusal.reason (at + 4 * n + refusal.place) ≡ x
     unfolding events_tests ◌then◌ further
-    events_refused number byte k = rw (one_left n count l, ← q, event_further W F e (at + 4 * n), ← t, k) at inv
+    events_refused refusal k = rw (one_left n count l, ← q, event_further W F e (at + 4 * n), ← t, k) at inv
 
-    pub events_next : r ≡ Fine → events_tests W F entry at (n + 1) (count - (n + 1)) ≡ x
+    pub events_next : r ≡ fine → events_tests W F entry at (n + 1) (count - (n + 1)) ≡ x
     unfolding events_tests ◌then◌ further
     events_next k = rw (one_left n count l, ← q, event_further W F e (at + 4 * n), ← t, k) at inv
 
-  pub events_end : count ≤ n → Fine ≡ x
+  pub events_end : count ≤ n → fine ≡ x
   unfolding events_tests
   events_end l = rw (none_left n count l) at inv
 
@@ -127,109 +127,84 @@ unfolding entries_at
 entry_number s at n e q = q
 
 -- a section of labels, test by test
-module _ (s : List ℕ) (at limit range order : ℕ) where
-  pub section_short : length s - at < 2 → at ≤ length s
-      → Counted-refused 1 (length s) ≡ labels_answer s at limit range order
+module _ (size at count : ℕ) (label : ℕ → ℕ) (limit : ℕ) (range order : Reason) (here : at + 2 ≤ size) where
+  pub labels_none : count ≡ 0 → refused range at ≡ label_section size at count label limit range order
+  unfolding label_section section ◌then◌ need
+  labels_none z = rw (le-leb (at + 2) size here, z)
+
+  pub labels_over : limit < count → refused range at ≡ label_section size at count label limit range order
+  unfolding label_section section ◌then◌ need
+  labels_over l = simp (le-leb (at + 2) size here, lt-leb count limit l, and-false)
+
+  module _ (some : count ≡ 0 → ⊥) (few : count ≤ limit) where
+    pub labels_cut : size - at - 2 < 2 * count → refused CutShort size ≡ label_section size at count label limit range order
+    unfolding label_section section ◌then◌ need
+    labels_cut l = rw (le-leb (at + 2) size here, lt-ltb 0 count (omega arith), le-leb count limit few, lt-leb (at + 2 + 2 * count) size (omega arith))
+
+    pub labels_order : (r : Fault) → 2 * count ≤ size - at - 2 → r ≡ rising label order (at + 2) 0 (count - 1)
+        → r ≡ label_section size at count label limit range order
+    unfolding label_section section ◌then◌ need
+    labels_order r l q =
+        rw (le-leb (at + 2) size here, lt-ltb 0 count (omega arith), le-leb count limit few, le-leb (at + 2 + 2 * count) size (omega arith)) q
+
+-- a section of events, test by test
+module _ (size at W F count : ℕ) (entry : ℕ → Entry) (here : at + 2 ≤ size) where
+  pub events_over : 16000 < count → refused EventCount at ≡ event_section size at W F count entry
+  unfolding event_section section ◌then◌ need
+  events_over l = rw (le-leb (at + 2) size here, lt-leb count 16000 l)
+
+  module _ (few : count ≤ 16000) where
+    pub events_cut : size - at - 2 < 4 * count → refused CutShort size ≡ event_section size at W F count entry
+    unfolding event_section section ◌then◌ need
+    events_cut l = rw (le-leb (at + 2) size here, le-leb count 16000 few, lt-leb (at + 2 + 4 * count) size (omega arith))
+
+    pub events_order : (r : Fault) → 4 * count ≤ size - at - 2 → r ≡ events_tests W F entry (at + 2) 0 count → r ≡ event_section size at W F count entry
+    unfolding event_section section ◌then◌ need
+    events_order r l q = rw (le-leb (at + 2) size here, le-leb count 16000 few, le-leb (at + 2 + 4 * count) size (omega arith)) q
+
+-- a file that ends before a section's count
+module _ (s : List ℕ) (at : ℕ) (l : length s - at < 2) (m : at ≤ length s) where
+  pub labels_short : (limit : ℕ) (range order : Reason) → Err (record { reason = CutShort; place = length s }) ≡ labels_answer s at limit range order
   unfolding labels_answer label_section section ◌then◌ need
-  section_short l _ = rw (lt-leb (at + 2) (length s) (omega arith))
+  labels_short limit range order = rw (lt-leb (at + 2) (length s) (omega arith))
 
-  module _ (n : ℕ) (a : 2 ≤ length s - at) (q : n ≡ number_at s at) where
-    here : leb (at + 2) (length s) ≡ true
-    here = le-leb (at + 2) (length s) (omega arith)
-
-    pub section_zero : n ≡ 0
-        → Counted-refused range at ≡ labels_answer s at limit range order
-    unfolding labels_answer label_section section ◌then◌ need
-    section_zero z = rw (here, ← q, z)
-
-    pub section_over : (n ≡ 0 → ⊥) → limit < n
-        → Counted-refused range at ≡ labels_answer s at limit range order
-    unfolding labels_answer label_section section ◌then◌ need
-    section_over _ z = simp (here, ← q, lt-leb n limit z, and-false)
-
-    module _ (z : n ≡ 0 → ⊥) (y : n ≤ limit) where
-      pub section_cut : length s - at - 2 < 2 * n
-          → Counted-refused 1 (length s) ≡ labels_answer s at limit range order
-      unfolding labels_answer label_section section ◌then◌ need
-      section_cut l = rw (here, ← q, lt-ltb 0 n (omega arith), le-leb n limit y, lt-leb (at + 2 + 2 * n) (length s) (omega arith))
-
-      module _ (r : Fault) (l : 2 * n ≤ length s - at - 2) (k : r ≡ rising (label_at s (at + 2)) order (at + 2) 0 (n - 1)) where
-        pub section_order : (number place : ℕ) → r ≡ Refused number place
-            → Counted-refused number place ≡ labels_answer s at limit range order
-        unfolding labels_answer label_section section ◌then◌ need
-        section_order number place t =
-            rw (here, ← q, lt-ltb 0 n (omega arith), le-leb n limit y, le-leb (at + 2 + 2 * n) (length s) (omega arith), ← k, t)
-
-        pub section_fine : r ≡ Fine
-            → Count n ≡ labels_answer s at limit range order
-        unfolding labels_answer label_section section ◌then◌ need
-        section_fine t =
-            rw (here, ← q, lt-ltb 0 n (omega arith), le-leb n limit y, le-leb (at + 2 + 2 * n) (length s) (omega arith), ← k, t)
-
--- the section of events, test by test
-module _ (s : List ℕ) (at W F : ℕ) where
-  pub events_short : length s - at < 2 → at ≤ length s
-      → Counted-refused 1 (length s) ≡ events_answer s at W F
+  pub events_short : (W F : ℕ) → Err (record { reason = CutShort; place = length s }) ≡ events_answer s at W F
   unfolding events_answer event_section section ◌then◌ need
-  events_short l _ = rw (lt-leb (at + 2) (length s) (omega arith))
-
-  module _ (n : ℕ) (a : 2 ≤ length s - at) (q : n ≡ number_at s at) where
-    count_here : leb (at + 2) (length s) ≡ true
-    count_here = le-leb (at + 2) (length s) (omega arith)
-
-    pub events_over : 16000 < n → Counted-refused 6 at ≡ events_answer s at W F
-    unfolding events_answer event_section section ◌then◌ need
-    events_over z = rw (count_here, ← q, lt-leb n 16000 z)
-
-    module _ (y : n ≤ 16000) where
-      pub events_cut : length s - at - 2 < 4 * n
-          → Counted-refused 1 (length s) ≡ events_answer s at W F
-      unfolding events_answer event_section section ◌then◌ need
-      events_cut l = rw (count_here, ← q, le-leb n 16000 y, lt-leb (at + 2 + 4 * n) (length s) (omega arith))
-
-      module _ (r : Fault) (l : 4 * n ≤ length s - at - 2) (k : r ≡ events_tests W F (entries_at s (at + 2)) (at + 2) 0 n) where
-        pub event_refused : (number place : ℕ) → r ≡ Refused number place
-            → Counted-refused number place ≡ events_answer s at W F
-        unfolding events_answer event_section section ◌then◌ need
-        event_refused number place t = rw (count_here, ← q, le-leb n 16000 y, le-leb (at + 2 + 4 * n) (length s) (omega arith), ← k, t)
-
-        pub events_fine : r ≡ Fine → Count n ≡ events_answer s at W F
-        unfolding events_answer event_section section ◌then◌ need
-        events_fine t = rw (count_here, ← q, le-leb n 16000 y, le-leb (at + 2 + 4 * n) (length s) (omega arith), ← k, t)
+  events_short W F = rw (lt-leb (at + 2) (length s) (omega arith))
 
 -- from the event count on: the events answer r, and then the end
-module _ (s : List ℕ) (W F : ℕ) (r : Counted) (q : r ≡ events_answer s (4 + 2 * W + 2 * F) W F) where
-  pub to_end_refused : (number place : ℕ) → r ≡ Counted-refused number place → Checked-refused number place ≡ to_end_answer s W F
+module _ (s : List ℕ) (W F : ℕ) (r : Result ℕ Refusal) (q : r ≡ events_answer s (4 + 2 * W + 2 * F) W F) where
+  pub to_end_refused : (refusal : Refusal) → r ≡ Err refusal → Err refusal ≡ to_end_answer s W F
   unfolding to_end_answer events_answer events_to_end ◌then◌
-  to_end_refused number place k =
-      rw (counted_refused (event_section (length s) (events_at W F) W F (number_at s (events_at W F)) (entries_at s (events_at W F + 2))) _ number place (sym q ∙ k))
+  to_end_refused refusal k =
+      rw (answered_err (event_section (length s) (events_at W F) W F (number_at s (events_at W F)) (entries_at s (events_at W F + 2))) _ refusal (sym q ∙ k))
 
-  module _ (n : ℕ) (k : r ≡ Count n) where
-    fine : (event_section (length s) (events_at W F) W F (number_at s (events_at W F)) (entries_at s (events_at W F + 2)) ≡ Fine) × (number_at s (events_at W F) ≡ n)
+  module _ (n : ℕ) (k : r ≡ Ok n) where
+    events_are_fine : (event_section (length s) (events_at W F) W F (number_at s (events_at W F)) (entries_at s (events_at W F + 2)) ≡ fine) × (number_at s (events_at W F) ≡ n)
     unfolding events_answer
-    fine = counted_count _ _ n (sym q ∙ k)
+    events_are_fine = answered_ok _ _ n (sym q ∙ k)
 
-    pub bytes_after : 4 + 2 * W + 2 * F + 2 + 4 * n < length s → Checked-refused 10 (4 + 2 * W + 2 * F + 2 + 4 * n) ≡ to_end_answer s W F
+    pub bytes_after : 4 + 2 * W + 2 * F + 2 + 4 * n < length s → Err (record { reason = ExtraBytes; place = 4 + 2 * W + 2 * F + 2 + 4 * n }) ≡ to_end_answer s W F
     unfolding to_end_answer events_to_end end_test ◌then◌ need
     bytes_after m =
         let z : 4 + 2 * W + 2 * F + 2 + 4 * n ≡ 6 + 2 * W + 2 * F + 4 * n = omega arith in
-        rw (fine.0, fine.1, z, lt-leb (length s) (6 + 2 * W + 2 * F + 4 * n) (omega arith))
+        rw (events_are_fine.0, events_are_fine.1, z, lt-leb (length s) (6 + 2 * W + 2 * F + 4 * n) (omega arith))
 
-    pub to_end_fine : length s ≤ 4 + 2 * W + 2 * F + 2 + 4 * n → Checked-fine (record { workers = W; fields = F; events = n }) ≡ to_end_answer s W F
+    pub to_end_fine : length s ≤ 4 + 2 * W + 2 * F + 2 + 4 * n → Ok (record { workers = W; fields = F; events = n }) ≡ to_end_answer s W F
     unfolding to_end_answer events_to_end end_test ◌then◌ need
-    to_end_fine m = rw (fine.0, fine.1, le-leb (length s) (6 + 2 * W + 2 * F + 4 * n) (omega arith))
+    to_end_fine m = rw (events_are_fine.0, events_are_fine.1, le-leb (length s) (6 + 2 * W + 2 * F + 4 * n) (omega arith))
 
 -- a section of labels that answers r, refused or fine: then its count is small and its labels are there
-module _ (s : List ℕ) (at limit range order : ℕ) (r : Counted) (q : r ≡ labels_answer s at limit range order) where
-  section_is_refused : (number place : ℕ) → r ≡ Counted-refused number place
-      → label_section (length s) at (number_at s at) (label_at s (at + 2)) limit range order ≡ Refused number place
+module _ (s : List ℕ) (at limit : ℕ) (range order : Reason) (r : Result ℕ Refusal) (q : r ≡ labels_answer s at limit range order) where
+  section_is_refused : (refusal : Refusal) → r ≡ Err refusal
+      → label_section (length s) at (number_at s at) (label_at s (at + 2)) limit range order ≡ Err refusal
   unfolding labels_answer
-  section_is_refused number place k = counted_refused _ _ number place (sym q ∙ k)
+  section_is_refused refusal k = answered_err _ _ refusal (sym q ∙ k)
 
-  module _ (m : ℕ) (k : r ≡ Count m) where
-    section_is_fine : (label_section (length s) at (number_at s at) (label_at s (at + 2)) limit range order ≡ Fine) × (number_at s at ≡ m)
+  module _ (m : ℕ) (k : r ≡ Ok m) where
+    section_is_fine : (label_section (length s) at (number_at s at) (label_at s (at + 2)) limit range order ≡ fine) × (number_at s at ≡ m)
     unfolding labels_answer
-    section_is_fine = counted_count _ _ m (sym q ∙ k)
+    section_is_fine = answered_ok _ _ m (sym q ∙ k)
 
     section_labels : Labels (length s) at (number_at s at) (label_at s (at + 2)) limit range order
     section_labels = labels_good (length s) at (number_at s at) (label_at s (at + 2)) limit range order section_is_fine.0
@@ -241,48 +216,58 @@ module _ (s : List ℕ) (at limit range order : ℕ) (r : Counted) (q : r ≡ la
     section_few = rw section_is_fine.1 at section_labels.few
 
 -- where the next section starts, whatever the limit and the numbers: after the workers, and after the fields
-module _ (s : List ℕ) (limit range order : ℕ) (r : Counted) (W : ℕ) where
-  pub workers_room : r ≡ labels_answer s 0 limit range order → r ≡ Count W → 2 + 2 * W ≤ length s
+module _ (s : List ℕ) (limit : ℕ) (range order : Reason) (r : Result ℕ Refusal) (W : ℕ) where
+  pub workers_room : r ≡ labels_answer s 0 limit range order → r ≡ Ok W → 2 + 2 * W ≤ length s
   workers_room q k = section_room s 0 limit range order r q W k
 
-  pub fields_room : (F : ℕ) → r ≡ labels_answer s (2 + 2 * W) limit range order → r ≡ Count F → 4 + 2 * W + 2 * F ≤ length s
+  pub fields_room : (F : ℕ) → r ≡ labels_answer s (2 + 2 * W) limit range order → r ≡ Ok F → 4 + 2 * W + 2 * F ≤ length s
   fields_room F q k = let z = section_room s (2 + 2 * W) limit range order r q F k in omega arith
 
 -- the whole file: the workers answer r, and where they are fine the fields answer r'
-module _ (s : List ℕ) (r : Counted) (q : r ≡ labels_answer s 0 16 2 3) where
-  pub workers_refused : (number place : ℕ) → r ≡ Counted-refused number place → Checked-refused number place ≡ checked s
+module _ (s : List ℕ) (r : Result ℕ Refusal) (q : r ≡ labels_answer s 0 16 WorkerCount WorkerOrder) where
+  pub workers_refused : (refusal : Refusal) → r ≡ Err refusal → Err refusal ≡ checked s
   unfolding checked refusal all_tests file_tests worker_count worker_label ◌then◌ need
-  workers_refused number place k = rw (section_is_refused s 0 16 2 3 r q number place k)
+  workers_refused refusal k = rw (section_is_refused s 0 16 WorkerCount WorkerOrder r q refusal k)
 
-  module _ (W : ℕ) (k : r ≡ Count W) where
-    module _ (r' : Counted) (q' : r' ≡ labels_answer s (2 + 2 * W) 512 4 5) where
-      pub fields_refused : (number place : ℕ) → r' ≡ Counted-refused number place → Checked-refused number place ≡ checked s
+  module _ (W : ℕ) (k : r ≡ Ok W) where
+    module _ (r' : Result ℕ Refusal) (q' : r' ≡ labels_answer s (2 + 2 * W) 512 FieldCount FieldOrder) where
+      pub fields_refused : (refusal : Refusal) → r' ≡ Err refusal → Err refusal ≡ checked s
       unfolding checked refusal all_tests file_tests worker_count worker_label field_count field_label ◌then◌ need
-      fields_refused number place k' =
-          let a = section_is_fine s 0 16 2 3 r q W k in
-          rw (a.0, a.1, section_is_refused s (2 + 2 * W) 512 4 5 r' q' number place k')
+      fields_refused refusal k' =
+          let a = section_is_fine s 0 16 WorkerCount WorkerOrder r q W k in
+          rw (a.0, a.1, section_is_refused s (2 + 2 * W) 512 FieldCount FieldOrder r' q' refusal k')
 
-      module _ (F : ℕ) (k' : r' ≡ Count F) where
-        pub events_answer_lem : (a : Checked) → a ≡ to_end_answer s W F → a ≡ checked s
+      module _ (F : ℕ) (k' : r' ≡ Ok F) where
+        pub events_answer_lem : (a : Result Counts Refusal) → a ≡ to_end_answer s W F → a ≡ checked s
         unfolding checked refusal all_tests file_tests worker_count worker_label field_count field_label event_count entry_in to_end_answer ◌then◌ need
         events_answer_lem a t =
-            let b = section_is_fine s 0 16 2 3 r q W k in
-            let c = section_is_fine s (2 + 2 * W) 512 4 5 r' q' F k' in
+            let b = section_is_fine s 0 16 WorkerCount WorkerOrder r q W k in
+            let c = section_is_fine s (2 + 2 * W) 512 FieldCount FieldOrder r' q' F k' in
             rw (b.0, b.1, c.0, c.1) t
 
 -- an event's numbers as an event
 module _ (e : Entry) where
-  pub is_read : e.kind ≡ 1 → Read (record { 0 = e.worker }) (record { 0 = e.field }) ≡ event_of e
+  pub is_read : kind_number Read ≡ e.kind → events.Read (record { 0 = e.worker }) (record { 0 = e.field }) ≡ event_of e
   unfolding event_of
-  is_read k = rw k
+  is_read q = rw (← q)
 
-  pub is_write : e.kind ≡ 2 → Write (record { 0 = e.worker }) (record { 0 = e.field }) ≡ event_of e
+  pub is_write : kind_number Write ≡ e.kind → events.Write (record { 0 = e.worker }) (record { 0 = e.field }) ≡ event_of e
   unfolding event_of
-  is_write k = rw k
+  is_write q = rw (← q)
 
-  pub is_crossing : (e.kind ≡ 1 → ⊥) → (e.kind ≡ 2 → ⊥) → Crossing (record { 0 = e.worker }) ≡ event_of e
+  pub is_crossing : kind_number Crossing ≡ e.kind → events.Crossing (record { 0 = e.worker }) ≡ event_of e
   unfolding event_of
-  is_crossing a b = rw (ne_eqb e.kind 1 a, ne_eqb e.kind 2 b)
+  is_crossing q = rw (← q)
+
+  pub is_no_kind : kind_allowed e.kind ≡ false → events.Crossing (record { 0 = e.worker }) ≡ event_of e
+  unfolding kind_allowed event_of
+  is_no_kind q = by (eqb e.kind 1) (eqb e.kind 2) refl refl q
+    where
+      by : (one two : Bool) → eqb e.kind 1 ≡ one → eqb e.kind 2 ≡ two → (one || (two || eqb e.kind 3)) ≡ false
+          → events.Crossing (record { 0 = e.worker }) ≡ cond one (events.Read (record { 0 = e.worker }) (record { 0 = e.field })) (cond two (events.Write (record { 0 = e.worker }) (record { 0 = e.field })) (events.Crossing (record { 0 = e.worker })))
+      by true two a b c = let z : ◌≡◌ {A = ℕ} 0 1 = cc in absurd (omega arith)
+      by false true a b c = let z : ◌≡◌ {A = ℕ} 0 1 = cc in absurd (omega arith)
+      by false false a b c = refl
 
 -- event n of an accepted file
 module _ (s : List ℕ) (c : Counts) (n : ℕ) (ok : Accepted s c) where
@@ -295,9 +280,6 @@ module _ (s : List ℕ) (c : Counts) (n : ℕ) (ok : Accepted s c) where
 
 -- labels by number
 module _ (s : List ℕ) (n r : ℕ) where
-  pub byte_past : length s ≤ n → 0 ≡ get_or s n 0
-  byte_past l = sym (get_or-eq_default s 0 l)
-
   pub worker_label_is : r ≡ number_at s (2 + 2 * n) → r ≡ worker_label s n
   unfolding worker_label label_at
   worker_label_is q = q
@@ -306,16 +288,29 @@ module _ (s : List ℕ) (n r : ℕ) where
   unfolding field_label label_at worker_count
   field_label_is W p q = rw (← p) q
 
+abbrev place_in : Option (Event × ℕ) → ℕ
+place_in (Some p) = p.1
+place_in None = 0
+
 -- what a reader hands out at a place
 module _ (s : List ℕ) (at : ℕ) where
-  pub step_past : length s < at → End ≡ step_at s at
+  pub step_past : length s < at → None ≡ step_at s at
   unfolding step_at
   step_past l = rw (lt-leb (at + 4) (length s) (omega arith))
 
-  pub step_short : at ≤ length s → length s - at < 4 → End ≡ step_at s at
+  pub step_short : at ≤ length s → length s - at < 4 → None ≡ step_at s at
   unfolding step_at
   step_short l m = rw (lt-leb (at + 4) (length s) (omega arith))
 
-  pub step_next : (e : Entry) (r : Event) → at ≤ length s → 4 ≤ length s - at → e ≡ entry_at s at → r ≡ event_of e → Next r (at + 4) ≡ step_at s at
+  pub step_next : (e : Entry) (r : Event) → at ≤ length s → 4 ≤ length s - at → e ≡ entry_at s at → r ≡ event_of e → Some (r, at + 4) ≡ step_at s at
   unfolding step_at
   step_next e r l m p q = rw (le-leb (at + 4) (length s) (omega arith), ← p, ← q)
+
+  -- what is handed out stands in the file, so less is left after it
+  pub step_fewer : (e : Event) (next : ℕ) → step_at s at ≡ Some (e, next) → length s - next < length s - at
+  unfolding step_at
+  step_fewer e next q = by (leb (at + 4) (length s)) refl q
+    where
+      by : (t : Bool) → leb (at + 4) (length s) ≡ t → ◌≡◌ {A = Option (Event × ℕ)} (cond t (Some (event_of (entry_at s at), at + 4)) None) (Some (e, next)) → length s - next < length s - at
+      by true l k = let room = leb-true (at + 4) (length s) l in let z : at + 4 ≡ next = ap place_in k in omega arith
+      by false l k = let z : ◌≡◌ {A = ℕ} 0 1 = cc in absurd (omega arith)

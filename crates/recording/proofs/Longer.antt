@@ -8,8 +8,10 @@ use lib.Dec.{ltb, leb}
 use lib.ListN.{length, get_or, take}
 use lib.Seq.{get_or-take, length-take-le, take_all}
 use borrow.Author.Tests.{lt-leb, leb-true, ltb-true, ltb-false}
-use Rattle.recording.specs.declared.Fault.{Fault}
-use Rattle.recording.specs.declared.Fault.TheVariants.{Fine, Refused}
+use Rattle.recording.specs.declared.refusal.Reason.{Reason}
+use Rattle.recording.specs.declared.refusal.Reason.TheVariants.{WorkerCount, WorkerOrder, FieldCount, FieldOrder, ShortTable}
+use Rattle.recording.specs.Refusals.{Fault}
+use Rattle.std.specs.Prelude.{Ok, Err}
 use Rattle.recording.specs.declared.Entry.{Entry}
 use Rattle.recording.specs.Tests.{need, rising, events_tests, label_section, event_section, end_test, events_to_end, fields_at, events_at, file_size, file_tests, all_tests}
 use Rattle.recording.specs.File.{number_at, label_at, entry_at, entries_at, worker_count, field_count, event_count, worker_label, field_label, entry_in, refusal, counts_in, answered, checked}
@@ -17,11 +19,11 @@ use Rattle.recording.proofs.Tests.{need_fine, then_same, section_same, section_p
 use Rattle.recording.proofs.WellFormed.{fine_well_formed}
 
 -- labels or events that agree answer the same
-rising_same : (label label' : ℕ → ℕ) (number at n k : ℕ) → ((j : ℕ) → j ≤ n + k → label j ≡ label' j) → rising label number at n k ≡ rising label' number at n k
+rising_same : (label label' : ℕ → ℕ) (order : Reason) (at n k : ℕ) → ((j : ℕ) → j ≤ n + k → label j ≡ label' j) → rising label order at n k ≡ rising label' order at n k
 unfolding rising
-rising_same label label' number at n zero same = refl
-rising_same label label' number at n (suc k) same =
-    rw (same n (omega arith), same (n + 1) (omega arith), rising_same label label' number at (n + 1) k (λ j l. same j (omega arith)))
+rising_same label label' order at n zero same = refl
+rising_same label label' order at n (suc k) same =
+    rw (same n (omega arith), same (n + 1) (omega arith), rising_same label label' order at (n + 1) k (λ j l. same j (omega arith)))
 
 events_same : (W F : ℕ) (entry entry' : ℕ → Entry) (at n k : ℕ) → ((j : ℕ) → j < n + k → entry j ≡ entry' j) → events_tests W F entry at n k ≡ events_tests W F entry' at n k
 unfolding events_tests
@@ -44,7 +46,7 @@ module _ (s t : List ℕ) (long : 65062 < length s) (long' : 65062 < length t) (
   entry_same at n l =
       rw (agree (at + 4 * n) (omega arith), agree (at + 4 * n + 1) (omega arith), number_same (at + 4 * n + 2) (omega arith))
 
-  labels_same : (at limit range order : ℕ) → at + 2 * limit + 4 ≤ 65062
+  labels_same : (at limit : ℕ) (range order : Reason) → at + 2 * limit + 4 ≤ 65062
       → label_section (length s) at (number_at s at) (label_at s (at + 2)) limit range order ≡ label_section (length t) at (number_at t at) (label_at t (at + 2)) limit range order
   unfolding label_section
   labels_same at limit range order l =
@@ -73,15 +75,15 @@ module _ (s t : List ℕ) (long : 65062 < length s) (long' : 65062 < length t) (
   unfolding refusal all_tests file_tests worker_count field_count event_count worker_label field_label entry_in
   same_refusal tables =
       let W = number_same 0 (omega arith) in
-      then_same (need tables 11 0) _ _ _ refl
+      then_same (need tables ShortTable 0) _ _ _ refl
       (λ _.
-      then_same _ _ _ _ (labels_same 0 16 2 3 (omega arith))
+      then_same _ _ _ _ (labels_same 0 16 WorkerCount WorkerOrder (omega arith))
       (λ workers.
-      let few = (labels_good (length s) 0 (number_at s 0) (label_at s 2) 16 2 3 workers).few in
+      let few = (labels_good (length s) 0 (number_at s 0) (label_at s 2) 16 WorkerCount WorkerOrder workers).few in
       rw W
-      (then_same _ _ _ _ (labels_same (fields_at (number_at t 0)) 512 4 5 (omega arith))
+      (then_same _ _ _ _ (labels_same (fields_at (number_at t 0)) 512 FieldCount FieldOrder (omega arith))
       (λ fields.
-      let few' = (labels_good (length s) (fields_at (number_at t 0)) (number_at s (fields_at (number_at t 0))) (label_at s (fields_at (number_at t 0) + 2)) 512 4 5 fields).few in
+      let few' = (labels_good (length s) (fields_at (number_at t 0)) (number_at s (fields_at (number_at t 0))) (label_at s (fields_at (number_at t 0) + 2)) 512 FieldCount FieldOrder fields).few in
       let F = number_same (fields_at (number_at t 0)) (omega arith) in
       rw F (to_end_same (number_at t 0) (number_at t (fields_at (number_at t 0))) (omega arith) (omega arith))))))
 
@@ -90,8 +92,8 @@ module _ (s t : List ℕ) (long : 65062 < length s) (long' : 65062 < length t) (
   same_checked = by (refusal true s) refl
     where
       by : (x : Fault) → refusal true s ≡ x → answered (refusal true s) (counts_in s) ≡ answered (refusal true t) (counts_in t)
-      by Fine e = let g = fine_well_formed s true e in absurd (omega arith)
-      by (Refused number place) e = rw (← same_refusal true, e)
+      by (Ok done) e = let g = fine_well_formed s true e in absurd (omega arith)
+      by (Err refusal) e = rw (← same_refusal true, e)
 
 -- a file and its first m bytes
 module _ (s : List ℕ) (m : ℕ) (l : 65062 < m) where

@@ -5,22 +5,24 @@ use Prim.Native.Nat.{ℕ, zero, suc, ◌+◌, ◌*◌, ◌-◌, ◌<◌, ◌≤�
 use native.Mathlib.Omega.{arith}
 use lib.Dec.{ltb, leb}
 use borrow.Author.Tests.{leb-true, le-leb, ltb-true, ltb-false, lt-ltb}
-use Rattle.recording.specs.declared.Fault.{Fault}
-use Rattle.recording.specs.declared.Fault.TheVariants.{Fine, Refused}
+use Rattle.recording.specs.declared.refusal.Reason.{Reason}
+use Rattle.recording.specs.declared.refusal.Refusal.{Refusal}
+use Rattle.recording.specs.declared.refusal.Reason.TheVariants.{Kind as Of-kind, Worker, Field}
+use Rattle.recording.specs.Refusals.{Fault, fine, refused}
+use Rattle.std.specs.Prelude.{Ok, Err}
 use Rattle.recording.specs.declared.Entry.{Entry}
-use Rattle.recording.specs.declared.Counted.TheVariants.{Refused as Counted-refused, Count}
 use Rattle.recording.specs.Tests.{need, ◌then◌, event_bytes, rising, kind_allowed, field_allowed, event_place, event_tests, section, label_section}
-use Rattle.recording.specs.Parts.{counted}
+use Rattle.recording.specs.File.{answered}
 
-pub need_fine : (t : Bool) (number place : ℕ) → need t number place ≡ Fine → t ≡ true
+pub need_fine : (t : Bool) (reason : Reason) (place : ℕ) → need t reason place ≡ fine → t ≡ true
 unfolding need
-need_fine true number place e = refl
-need_fine false number place e = let z : ◌≡◌ {A = ℕ} 0 1 = cc in absurd (omega arith)
+need_fine true reason place e = refl
+need_fine false reason place e = let z : ◌≡◌ {A = ℕ} 0 1 = cc in absurd (omega arith)
 
-pub then_fine : (a b : Fault) → (a then b) ≡ Fine → (a ≡ Fine) × (b ≡ Fine)
+pub then_fine : (a b : Fault) → (a then b) ≡ fine → (a ≡ fine) × (b ≡ fine)
 unfolding ◌then◌
-then_fine Fine b e = (refl, e)
-then_fine (Refused number place) b e = let z : ◌≡◌ {A = ℕ} 0 1 = cc in absurd (omega arith)
+then_fine (Ok done) b e = (refl, e)
+then_fine (Err refusal) b e = let z : ◌≡◌ {A = ℕ} 0 1 = cc in absurd (omega arith)
 
 pub and_both : (a b : Bool) → a && b ≡ true → (a ≡ true) × (b ≡ true)
 and_both true b t = (refl, t)
@@ -28,11 +30,11 @@ and_both false b t = let z : ◌≡◌ {A = ℕ} 0 1 = cc in absurd (omega arith
 
 -- what a section that is fine has passed
 pub record Passed (size at : ℕ) (range : Fault) (bytes : ℕ) (items : Fault) : Type 0 where
-  pub range_fine : range ≡ Fine
+  pub range_fine : range ≡ fine
   pub room : at + 2 + bytes ≤ size
-  pub items_fine : items ≡ Fine
+  pub items_fine : items ≡ fine
 
-pub section_passed : (size at : ℕ) (range : Fault) (bytes : ℕ) (items : Fault) → section size at range bytes items ≡ Fine → Passed size at range bytes items
+pub section_passed : (size at : ℕ) (range : Fault) (bytes : ℕ) (items : Fault) → section size at range bytes items ≡ fine → Passed size at range bytes items
 unfolding section
 section_passed size at range bytes items e =
     let a = then_fine _ _ e in
@@ -44,33 +46,33 @@ section_passed size at range bytes items e =
       items_fine = c.1;
     }
 
-pub counted_count : (x : Fault) (n m : ℕ) → counted x n ≡ Count m → (x ≡ Fine) × (n ≡ m)
-counted_count Fine n m e = (refl, cc)
-counted_count (Refused number place) n m e = let z : ◌≡◌ {A = ℕ} 0 1 = cc in absurd (omega arith)
+pub answered_ok : {A : Type 0} (x : Fault) (n m : A) → answered x n ≡ Ok m → (x ≡ fine) × (n ≡ m)
+answered_ok (Ok done) n m e = (refl, cc)
+answered_ok (Err refusal) n m e = let z : ◌≡◌ {A = ℕ} 0 1 = cc in absurd (omega arith)
 
-pub counted_refused : (x : Fault) (n number place : ℕ) → counted x n ≡ Counted-refused number place → x ≡ Refused number place
-counted_refused Fine n number place e = let z : ◌≡◌ {A = ℕ} 0 1 = cc in absurd (omega arith)
-counted_refused (Refused a b) n number place e = cc
+pub answered_err : {A : Type 0} (x : Fault) (n : A) (refusal : Refusal) → answered x n ≡ Err refusal → x ≡ Err refusal
+answered_err (Ok done) n refusal e = let z : ◌≡◌ {A = ℕ} 0 1 = cc in absurd (omega arith)
+answered_err (Err found) n refusal e = cc
 
-pub fine_need : (t : Bool) (number place : ℕ) → t ≡ true → need t number place ≡ Fine
+pub fine_need : (t : Bool) (reason : Reason) (place : ℕ) → t ≡ true → need t reason place ≡ fine
 unfolding need
-fine_need t number place e = rw e
+fine_need t reason place e = rw e
 
-pub fine_then : (a b : Fault) → a ≡ Fine → b ≡ Fine → (a then b) ≡ Fine
+pub fine_then : (a b : Fault) → a ≡ fine → b ≡ fine → (a then b) ≡ fine
 unfolding ◌then◌
 fine_then a b p q = rw p q
 
 -- a test that passes, before or after the others
-pub fine_first : (a b : Fault) → a ≡ Fine → (a then b) ≡ b
+pub fine_first : (a b : Fault) → a ≡ fine → (a then b) ≡ b
 unfolding ◌then◌
 fine_first a b p = rw p
 
-pub then_done : (a b : Fault) → b ≡ Fine → (a then b) ≡ a
+pub then_done : (a b : Fault) → b ≡ fine → (a then b) ≡ a
 unfolding ◌then◌
-then_done Fine b p = p
-then_done (Refused number place) b p = refl
+then_done (Ok done) b p = p
+then_done (Err refusal) b p = refl
 
-pub passed_section : (size at : ℕ) (range : Fault) (bytes : ℕ) (items : Fault) → Passed size at range bytes items → section size at range bytes items ≡ Fine
+pub passed_section : (size at : ℕ) (range : Fault) (bytes : ℕ) (items : Fault) → Passed size at range bytes items → section size at range bytes items ≡ fine
 unfolding section
 passed_section size at range bytes items p =
     let l = p.room in
@@ -87,31 +89,31 @@ first_or_later {P} n j l here later = by (ltb n j) refl
     by false e = let m = ltb-false n j e in here (omega arith)
 
 -- labels rise exactly if each is below the next
-pub rising_fine : (label : ℕ → ℕ) (number at n k : ℕ) → rising label number at n k ≡ Fine → (j : ℕ) → n ≤ j → j < n + k → label j < label (j + 1)
+pub rising_fine : (label : ℕ → ℕ) (order : Reason) (at n k : ℕ) → rising label order at n k ≡ fine → (j : ℕ) → n ≤ j → j < n + k → label j < label (j + 1)
 unfolding rising
-rising_fine label number at n zero e j l m = absurd (omega arith)
-rising_fine label number at n (suc k) e j l m =
+rising_fine label order at n zero e j l m = absurd (omega arith)
+rising_fine label order at n (suc k) e j l m =
     let a = then_fine _ _ e in
     first_or_later n j l
     (λ q. rw q at (ltb-true (label n) (label (n + 1)) (need_fine _ _ _ a.0)))
-    (λ p. rising_fine label number at (n + 1) k a.1 j p (omega arith))
+    (λ p. rising_fine label order at (n + 1) k a.1 j p (omega arith))
 
-pub fine_rising : (label : ℕ → ℕ) (number at n k : ℕ) → ((j : ℕ) → n ≤ j → j < n + k → label j < label (j + 1)) → rising label number at n k ≡ Fine
+pub fine_rising : (label : ℕ → ℕ) (order : Reason) (at n k : ℕ) → ((j : ℕ) → n ≤ j → j < n + k → label j < label (j + 1)) → rising label order at n k ≡ fine
 unfolding rising
-fine_rising label number at n zero up = refl
-fine_rising label number at n (suc k) up =
+fine_rising label order at n zero up = refl
+fine_rising label order at n (suc k) up =
     fine_then _ _ (fine_need _ _ _ (lt-ltb (label n) (label (n + 1)) (up n (omega arith) (omega arith))))
-    (fine_rising label number at (n + 1) k (λ j l m. up j (omega arith) (omega arith)))
+    (fine_rising label order at (n + 1) k (λ j l m. up j (omega arith) (omega arith)))
 
 -- a section of labels is fine exactly if its count is in range and its labels are there and rise
-module _ (size at count : ℕ) (label : ℕ → ℕ) (limit range order : ℕ) where
+module _ (size at count : ℕ) (label : ℕ → ℕ) (limit : ℕ) (range order : Reason) where
   pub record Labels : Type 0 where
     pub some : 1 ≤ count
     pub few : count ≤ limit
     pub room : at + 2 + 2 * count ≤ size
     pub rise : (n : ℕ) → n + 1 < count → label n < label (n + 1)
 
-  pub labels_good : label_section size at count label limit range order ≡ Fine → Labels
+  pub labels_good : label_section size at count label limit range order ≡ fine → Labels
   unfolding label_section
   labels_good t =
       let p = section_passed size at _ _ _ t in
@@ -124,7 +126,7 @@ module _ (size at count : ℕ) (label : ℕ → ℕ) (limit range order : ℕ) w
         rise = λ n l. rising_fine label order (at + 2) 0 (count - 1) p.items_fine n (omega arith) (omega arith);
       }
 
-  pub good_labels : Labels → label_section size at count label limit range order ≡ Fine
+  pub good_labels : Labels → label_section size at count label limit range order ≡ fine
   unfolding label_section
   good_labels g =
       let some = g.some in
@@ -137,12 +139,12 @@ module _ (size at count : ℕ) (label : ℕ → ℕ) (limit range order : ℕ) w
 
 -- a fault so many bytes further on
 unfoldable pub further : ℕ → Fault → Fault
-further start Fine = Fine
-further start (Refused number byte) = Refused number (start + byte)
+further start (Ok done) = fine
+further start (Err r) = refused r.reason (start + r.place)
 
 -- an event's tests, by what each of them finds
 abbrev found : Bool → Bool → Bool → ℕ → Fault
-found kind worker field start = need kind 7 (event_place 7 start) then need worker 8 (event_place 8 start) then need field 9 (event_place 9 start)
+found kind worker field start = need kind Of-kind (event_place Of-kind start) then need worker Worker (event_place Worker start) then need field Field (event_place Field start)
 
 -- they answer at any place what they answer at 0, so many bytes further on, and their place is one of the event's bytes
 module _ (W F : ℕ) (e : Entry) where
@@ -156,24 +158,24 @@ module _ (W F : ℕ) (e : Entry) where
       by true true false = refl
       by true true true = refl
 
-  pub event_byte : (r : Fault) (number byte : ℕ) → r ≡ event_tests W F e 0 → r ≡ Refused number byte → byte < event_bytes
+  pub event_byte : (r : Fault) (refusal : Refusal) → r ≡ event_tests W F e 0 → r ≡ Err refusal → refusal.place < event_bytes
   unfolding event_tests event_place ◌then◌ need
-  event_byte r number byte = by (kind_allowed e.kind) (ltb e.worker W) (field_allowed F e.kind e.field)
+  event_byte r refusal = by (kind_allowed e.kind) (ltb e.worker W) (field_allowed F e.kind e.field)
     where
-      by : (kind worker field : Bool) → r ≡ found kind worker field 0 → r ≡ Refused number byte → byte < event_bytes
-      by false worker field t k = let z : 0 ≡ byte = cc in omega arith
-      by true false field t k = let z : 1 ≡ byte = cc in omega arith
-      by true true false t k = let z : 2 ≡ byte = cc in omega arith
+      by : (kind worker field : Bool) → r ≡ found kind worker field 0 → r ≡ Err refusal → refusal.place < event_bytes
+      by false worker field t k = let z : 0 ≡ refusal.place = cc in omega arith
+      by true false field t k = let z : 1 ≡ refusal.place = cc in omega arith
+      by true true false t k = let z : 2 ≡ refusal.place = cc in omega arith
       by true true true t k = let z : ◌≡◌ {A = ℕ} 0 1 = cc in absurd (omega arith)
 
 -- two lists of tests that answer the same
-pub then_same : (a a' b b' : Fault) → a ≡ a' → (a ≡ Fine → b ≡ b') → (a then b) ≡ (a' then b')
+pub then_same : (a a' b b' : Fault) → a ≡ a' → (a ≡ fine → b ≡ b') → (a then b) ≡ (a' then b')
 unfolding ◌then◌
-then_same Fine a' b b' p q = rw (← p) (q refl)
-then_same (Refused number place) a' b b' p q = rw (← p)
+then_same (Ok done) a' b b' p q = rw (← p) (q refl)
+then_same (Err refusal) a' b b' p q = rw (← p)
 
 pub section_same : (size size' at bytes : ℕ) (range items items' : Fault) → at + 2 ≤ size → at + 2 ≤ size'
-    → (range ≡ Fine → (at + 2 + bytes ≤ size) × (at + 2 + bytes ≤ size') × (items ≡ items'))
+    → (range ≡ fine → (at + 2 + bytes ≤ size) × (at + 2 + bytes ≤ size') × (items ≡ items'))
     → section size at range bytes items ≡ section size' at range bytes items'
 unfolding section ◌then◌ need
 section_same size size' at bytes range items items' l l' q =

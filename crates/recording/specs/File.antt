@@ -1,15 +1,12 @@
 -- What the bytes of a recording file hold, and what checking them answers.
-use Rattle.std.specs.Prelude.{◌≡◌, Bool, true, cond, List, [], ◌∷◌, ℕ, zero, suc, ◌+◌, ◌*◌, eqb, leb, length, get_or}
+use Rattle.std.specs.Prelude.{◌≡◌, Result, Ok, Err, Option, Some, None, Bool, true, cond, List, [], ◌∷◌, ℕ, zero, suc, ◌+◌, ◌*◌, eqb, leb, length, get_or}
 use Rattle.events.specs.declared.Event.{Event}
 use Rattle.events.specs.declared.Event.TheVariants.{Read, Write, Crossing}
-use Rattle.recording.specs.declared.Fault.{Fault}
-use Rattle.recording.specs.declared.Fault.TheVariants.{Fine, Refused}
+use Rattle.recording.specs.declared.refusal.Refusal.{Refusal}
+use Rattle.recording.specs.Refusals.{Fault, fine}
 use Rattle.recording.specs.declared.Entry.{Entry}
 use Rattle.recording.specs.declared.Counts.{Counts}
-use Rattle.recording.specs.declared.Checked.{Checked}
-use Rattle.recording.specs.declared.Checked.TheVariants.{Refused as Checked-refused, Fine as Checked-fine}
-use Rattle.recording.specs.declared.Step.{Step}
-use Rattle.recording.specs.declared.Step.TheVariants.{Next, End}
+use Rattle.recording.specs.declared.Reader.{Reader}
 use Rattle.recording.specs.Tests.{Contents, event_bytes, fields_at, events_at, all_tests}
 
 -- All two-byte numbers have the low byte first.
@@ -90,17 +87,17 @@ refusal tables s = all_tests tables (length s) (contents_in s)
 abbrev pub counts_in : List ℕ → Counts
 counts_in s = record { workers = worker_count s; fields = field_count s; events = event_count s }
 
--- What the check answers: the number and place of a refusal, or the counts.
-abbrev pub answered : Fault → Counts → Checked
-answered (Refused number place) counts = Checked-refused number place
-answered Fine counts = Checked-fine counts
+-- What the check answers: the refusal, or the counts.
+abbrev pub answered : {A : Type 0} → Fault → A → Result A Refusal
+answered (Err refusal) counts = Err refusal
+answered (Ok done) counts = Ok counts
 
-unfoldable pub checked : List ℕ → Checked
+unfoldable pub checked : List ℕ → Result Counts Refusal
 checked s = answered (refusal true s) (counts_in s)
 
 -- The file is accepted, and these are its counts: what a reader of its events relies on.
 pub record Accepted (s : List ℕ) (counts : Counts) : Type 0 where
-  pub fine : refusal true s ≡ Fine
+  pub fine : refusal true s ≡ fine
   pub workers : counts.workers ≡ worker_count s
   pub fields : counts.fields ≡ field_count s
   pub events : counts.events ≡ event_count s
@@ -110,5 +107,10 @@ abbrev pub place_of : Counts → ℕ → ℕ
 place_of c n = events_at c.workers c.fields + 2 + event_bytes * n
 
 -- A reader hands out one event at a time: the event at a place with the place of the next, or the end where no event's bytes are left.
-unfoldable pub step_at : List ℕ → ℕ → Step
-step_at s at = cond (leb (at + event_bytes) (length s)) (Next (event_of (entry_at s at)) (at + event_bytes)) End
+unfoldable pub step_at : List ℕ → ℕ → Option (Event × ℕ)
+step_at s at = cond (leb (at + event_bytes) (length s)) (Some (event_of (entry_at s at), at + event_bytes)) None
+
+-- So a reader moves on to the next event, and keeps its file and its counts. At the end it stays.
+abbrev pub HandsOut : Reader → Option Event → Reader → Type 0
+HandsOut old (Some e) new = (step_at old.file.now old.at ≡ Some (e, new.at)) × (new.file ≡ old.file) × (new.counts ≡ old.counts)
+HandsOut old None new = (step_at old.file.now old.at ≡ None) × (new ≡ old)

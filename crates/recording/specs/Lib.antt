@@ -1,4 +1,5 @@
 -- What must be believed of a recording file, in reading order. Parts is only for the crate's own functions.
+pub mod Refusals
 pub mod Tests
 pub mod File
 pub mod WellFormed

@@ -1,19 +1,23 @@
--- The tests that a recording passes, with their numbers and places, in their order. They are over numbers, not bytes, so that they hold for a file that is read and for one to be written.
-use Rattle.std.specs.Prelude.{Bool, true, false, cond, ◌&&◌, ◌||◌, ℕ, zero, suc, ◌+◌, ◌*◌, ◌-◌, eqb, ltb, leb}
-use Rattle.recording.specs.declared.Fault.{Fault}
-use Rattle.recording.specs.declared.Fault.TheVariants.{Fine, Refused}
+-- The tests that a recording passes, with their reasons and places, in their order. They are over numbers, not bytes, so that they hold for a file that is read and for one to be written.
+use Rattle.std.specs.Prelude.{◌≡◌, Result, Ok, Err, MatchResult, Bool, true, false, cond, ◌&&◌, ◌||◌, ℕ, zero, suc, ◌+◌, ◌*◌, ◌-◌, eqb, ltb, leb}
+use Rattle.recording.specs.declared.event.Kind.{Kind}
+use Rattle.recording.specs.declared.event.Kind.TheVariants.{Read, Write, Crossing}
+use Rattle.recording.specs.declared.event.UnknownKind.{UnknownKind}
+use Rattle.recording.specs.declared.refusal.Reason.{Reason}
+use Rattle.recording.specs.declared.refusal.Reason.TheVariants.{CutShort, WorkerCount, WorkerOrder, FieldCount, FieldOrder, EventCount, Kind as Of-kind, Worker, Field, ExtraBytes, ShortTable}
+use Rattle.recording.specs.Refusals.{Fault, fine, refused, number_of}
 use Rattle.recording.specs.declared.Entry.{Entry}
 
--- A test that must hold; if it does not, this number at this place.
-unfoldable pub need : Bool → ℕ → ℕ → Fault
-need true number place = Fine
-need false number place = Refused number place
+-- A test that must hold; if it does not, this reason at this place.
+unfoldable pub need : Bool → Reason → ℕ → Fault
+need true reason place = fine
+need false reason place = refused reason place
 
 -- The first test that fails gives the answer.
 infixr 30 ◌then◌
 unfoldable pub ◌then◌ : Fault → Fault → Fault
-◌then◌ Fine later = later
-◌then◌ (Refused number place) later = Refused number place
+◌then◌ (Ok done) later = later
+◌then◌ (Err refusal) later = Err refusal
 
 -- 4 bytes each: kind, worker number, field number (2 bytes).
 abbrev pub event_bytes : ℕ
@@ -31,57 +35,66 @@ abbrev pub file_size : ℕ → ℕ → ℕ → ℕ
 file_size W F E = 6 + 2 * W + 2 * F + event_bytes * E
 
 -- 3, 5: label not above the one before; the place is the later label. It is about label n and the k labels after it, of those that start at place at.
-unfoldable pub rising : (ℕ → ℕ) → ℕ → ℕ → ℕ → ℕ → Fault
-rising label number at n zero = Fine
-rising label number at n (suc k) =
-    need (ltb (label n) (label (n + 1))) number (at + 2 * (n + 1)) then rising label number at (n + 1) k
+unfoldable pub rising : (ℕ → ℕ) → Reason → ℕ → ℕ → ℕ → Fault
+rising label order at n zero = fine
+rising label order at n (suc k) =
+    need (ltb (label n) (label (n + 1))) order (at + 2 * (n + 1)) then rising label order at (n + 1) k
 
 -- Kind 1 is a read, 2 a write, 3 a crossing.
 unfoldable pub kind_allowed : ℕ → Bool
 kind_allowed kind = eqb kind 1 || (eqb kind 2 || eqb kind 3)
+
+abbrev pub kind_number : Kind → ℕ
+kind_number Read = 1
+kind_number Write = 2
+kind_number Crossing = 3
+
+-- what a number says as a kind: the kind of that number, or that there is none
+abbrev pub Decodes : ℕ → Result Kind UnknownKind → Type 0
+Decodes number r = MatchResult r (λ kind. kind_number kind ≡ number) (λ e. (e.0 ≡ number) × (kind_allowed number ≡ false))
 
 -- A crossing has field number 0; any other event has one below the field count.
 unfoldable pub field_allowed : ℕ → ℕ → ℕ → Bool
 field_allowed F kind field = cond (eqb kind 3) (eqb field 0) (ltb field F)
 
 -- The place of 7, 8 and 9, for an event that starts at start: the kind is its first byte (7), the worker its second (8), the field its third (9), also where only the field's high byte is bad.
-unfoldable pub event_place : ℕ → ℕ → ℕ
-event_place number start = cond (eqb number 8) (start + 1) (cond (eqb number 9) (start + 2) start)
+unfoldable pub event_place : Reason → ℕ → ℕ
+event_place reason start = cond (eqb (number_of reason) 8) (start + 1) (cond (eqb (number_of reason) 9) (start + 2) start)
 
 -- Within an event: kind (7), worker (8), field (9).
 unfoldable pub event_tests : ℕ → ℕ → Entry → ℕ → Fault
 event_tests W F e start =
-    need (kind_allowed e.kind) 7 (event_place 7 start)
-    then need (ltb e.worker W) 8 (event_place 8 start)
-    then need (field_allowed F e.kind e.field) 9 (event_place 9 start)
+    need (kind_allowed e.kind) Of-kind (event_place Of-kind start)
+    then need (ltb e.worker W) Worker (event_place Worker start)
+    then need (field_allowed F e.kind e.field) Field (event_place Field start)
 
 -- Event n and the events after it, k in all, of those that start at place at: the first bad event answers.
 unfoldable pub events_tests : ℕ → ℕ → (ℕ → Entry) → ℕ → ℕ → ℕ → Fault
-events_tests W F entry at n zero = Fine
+events_tests W F entry at n zero = fine
 events_tests W F entry at n (suc k) =
     event_tests W F (entry n) (at + event_bytes * n) then events_tests W F entry at (n + 1) k
 
 -- A section, with its count at place at: a count is present (1), its range, all its items are present (1), its items in order. The place of 1 is the file length.
 unfoldable pub section : ℕ → ℕ → Fault → ℕ → Fault → Fault
 section size at range bytes items =
-    need (leb (at + 2) size) 1 size
+    need (leb (at + 2) size) CutShort size
     then range
-    then need (leb (at + 2 + bytes) size) 1 size
+    then need (leb (at + 2 + bytes) size) CutShort size
     then items
 
--- Worker count, 1 to 16 (2), or field count, 1 to 512 (4); then a 2-byte label each, strictly rising (3, 5). `range` and `order` are the numbers.
-unfoldable pub label_section : ℕ → ℕ → ℕ → (ℕ → ℕ) → ℕ → ℕ → ℕ → Fault
+-- Worker count, 1 to 16 (2), or field count, 1 to 512 (4); then a 2-byte label each, strictly rising (3, 5). `range` and `order` are the reasons.
+unfoldable pub label_section : ℕ → ℕ → ℕ → (ℕ → ℕ) → ℕ → Reason → Reason → Fault
 label_section size at count label limit range order =
     section size at (need (ltb 0 count && leb count limit) range at) (2 * count) (rising label order (at + 2) 0 (count - 1))
 
 -- Event count, 0 to 16,000 (6); then 4 bytes each.
 unfoldable pub event_section : ℕ → ℕ → ℕ → ℕ → ℕ → (ℕ → Entry) → Fault
 event_section size at W F count entry =
-    section size at (need (leb count 16000) 6 at) (event_bytes * count) (events_tests W F entry (at + 2) 0 count)
+    section size at (need (leb count 16000) EventCount at) (event_bytes * count) (events_tests W F entry (at + 2) 0 count)
 
 -- 10: bytes after the last event; the place is the first extra byte, where the file should end.
 unfoldable pub end_test : ℕ → ℕ → Fault
-end_test size end = need (leb size end) 10 end
+end_test size end = need (leb size end) ExtraBytes end
 
 -- The events, and nothing after them.
 unfoldable pub events_to_end : ℕ → ℕ → ℕ → ℕ → (ℕ → Entry) → Fault
@@ -99,10 +112,10 @@ pub record Contents : Type 0 where
 -- The tests of a file of size bytes, front to back: workers (1, 2, 1, 3), fields (1, 4, 1, 5), events (1, 6, 1, then 7 to 9 event by event), and last no byte after the last event (10).
 unfoldable pub file_tests : ℕ → Contents → Fault
 file_tests size c =
-    label_section size 0 c.workers c.worker_label 16 2 3
-    then label_section size (fields_at c.workers) c.fields c.field_label 512 4 5
+    label_section size 0 c.workers c.worker_label 16 WorkerCount WorkerOrder
+    then label_section size (fields_at c.workers) c.fields c.field_label 512 FieldCount FieldOrder
     then events_to_end size c.workers c.fields c.events c.entry
 
 -- Test 11 comes before the file is looked at: every lent table has its full length.
 unfoldable pub all_tests : Bool → ℕ → Contents → Fault
-all_tests tables size c = need tables 11 0 then file_tests size c
+all_tests tables size c = need tables ShortTable 0 then file_tests size c

@@ -2,24 +2,22 @@
 #![tactic(auto)]
 
 pub mod event;
+pub mod items;
 mod numbers;
+pub mod refusal;
 mod sections;
 
-ghost use Rattle.std.specs.Prelude.{◌≡◌, ◌<◌};
-ghost use Rattle.recording.specs.File.{checked, event_of, event_at, worker_label, field_label, Accepted, place_of, step_at};
+ghost use Rattle.std.specs.Prelude.{◌≡◌, ◌-◌, ◌<◌, length};
+ghost use Rattle.recording.specs.File.{checked, event_of, event_at, worker_label, field_label, Accepted, place_of, step_at, HandsOut};
+ghost use Rattle.std.specs.Iterator.{at_most};
 
+use event::Kind;
 use events::Event;
+use items::LabelRule;
+use refusal::Refusal;
 use sorts::{Field, Worker};
 
-// What a test of the file answers.
-#[derive(Clone, Copy)]
-pub enum Fault {
-    Fine,
-    // Number and place.
-    Refused(u32, usize),
-}
-
-// An event as the file gives it: three numbers, not tested yet.
+// An event as the file gives it: three numbers, not tested yet, so that a kind that is none can be told.
 #[derive(Clone, Copy)]
 pub struct Entry {
     pub kind: u32,
@@ -40,49 +38,27 @@ pub struct Counts {
     pub events: u32,
 }
 
-// The answer to a file: refused by number and place, or fine.
-#[derive(Clone, Copy)]
-pub enum Checked {
-    Refused(u32, usize),
-    Fine(Counts),
-}
-
-// The answer to one section: refused, or fine with its count.
-#[derive(Clone, Copy)]
-enum Counted {
-    Refused(u32, usize),
-    Count(u32),
-}
-
 // The answer to a whole file, of any length: the first test that fails, or its counts.
-pub fn check(file: &[u8]) -> Checked
+pub fn check(file: &[u8]) -> Result<Counts, Refusal>
     ensures { result ≡ checked file.now }
 {
-    match sections::label_section(file, 0, Worker::LIMIT, 2, 3) {
-        Counted::Refused(number, place) => Checked::Refused(number, place),
-        Counted::Count(workers) => {
-            let at = 2 + 2 * (workers as usize);
-            match sections::label_section(file, at, Field::LIMIT, 4, 5) {
-                Counted::Refused(number, place) => Checked::Refused(number, place),
-                Counted::Count(fields) => sections::check_events(file, workers, fields),
-            }
-        }
-    }
+    let workers = sections::label_section(file, 0, LabelRule::WORKERS)?;
+    let at = 2 + 2 * (workers as usize);
+    let fields = sections::label_section(file, at, LabelRule::FIELDS)?;
+    sections::check_events(file, workers, fields)
 }
 
-// What an event's numbers say; meant for numbers that passed the tests.
+// What an event's numbers say; meant for numbers that passed the tests, and so no `From`.
 fn event_of(e: Entry) -> Event
     ensures { result ≡ event_of e }
 {
     let w = Worker(e.worker);
     let f = Field(e.field);
-    if e.kind == 1 {
-        return Event::Read(w, f);
+    match Kind::try_from(e.kind) {
+        Ok(Kind::Read) => Event::Read(w, f),
+        Ok(Kind::Write) => Event::Write(w, f),
+        _ => Event::Crossing(w),
     }
-    if e.kind == 2 {
-        return Event::Write(w, f);
-    }
-    Event::Crossing(w)
 }
 
 // Event n of a file that the check accepted with these counts.
@@ -109,15 +85,6 @@ pub fn field_label(file: &[u8], f: Field) -> u32
     numbers::any_number_at(file, 2 + 2 * workers + 2 + 2 * (f.0 as usize))
 }
 
-// What a reader hands out.
-#[derive(Clone, Copy)]
-pub enum Step {
-    // An event, and the place of the next.
-    Next(Event, usize),
-    // There is none left.
-    End,
-}
-
 // Where a reader of a file with these counts begins: the place of event 0.
 pub fn first_place(counts: Counts) -> usize
     ensures { result ≡ place_of counts 0 }
@@ -125,66 +92,61 @@ pub fn first_place(counts: Counts) -> usize
     6 + 2 * (counts.workers as usize) + 2 * (counts.fields as usize)
 }
 
-// The work of a reader, at a place of the file.
-pub fn step_at(file: &[u8], at: usize) -> Step
+// The work of a reader, at a place of the file: the event there, and the place of the next.
+pub fn step_at(file: &[u8], at: usize) -> Option<(Event, usize)>
     ensures { result ≡ step_at file.now at }
 {
     if file.len() < at {
-        return Step::End;
+        return None;
     }
     if file.len() - at < Entry::BYTES {
-        return Step::End;
+        return None;
     }
-    Step::Next(event_of(numbers::entry_at(file, at)), at + Entry::BYTES)
+    Some((event_of(numbers::entry_at(file, at)), at + Entry::BYTES))
 }
 
 // A reader stands over the lent file and hands out one event at a time: the file, its counts and the place of the next event.
 #[derive(Clone, Copy)]
 pub struct Reader<'a> {
     pub file: &'a [u8],
-    pub workers: u32,
-    pub fields: u32,
-    pub events: u32,
+    pub counts: Counts,
     pub at: usize,
 }
 
 impl<'a> Reader<'a> {
-    pub fn new(file: &'a [u8], workers: u32, fields: u32, events: u32, at: usize) -> Reader<'a>
-        ensures { result ≡ record { file = file.entry; workers = workers; fields = fields; events = events; at = at } }
+    pub fn new(file: &'a [u8], counts: Counts, at: usize) -> Reader<'a>
+        ensures { result ≡ record { file = file.entry; counts = counts; at = at } }
     {
-        Reader {
-            file,
-            workers,
-            fields,
-            events,
-            at,
-        }
-    }
-
-    // The event at the reader's place, if there is one left.
-    pub fn next(self) -> Step
-        ensures { result ≡ step_at self.entry.file.now self.entry.at }
-    {
-        step_at(self.file, self.at)
+        Reader { file, counts, at }
     }
 
     // The reader at another place.
     pub fn moved(self, at: usize) -> Reader<'a>
-        ensures { result ≡ record { file = self.entry.file; workers = self.entry.workers; fields = self.entry.fields; events = self.entry.events; at = at } }
+        ensures { result ≡ record { file = self.entry.file; counts = self.entry.counts; at = at } }
     {
-        Reader {
-            file: self.file,
-            workers: self.workers,
-            fields: self.fields,
-            events: self.events,
-            at,
-        }
+        Reader { at, ..self }
     }
 }
 
-// What a reader over the file hands out at a place, told by plain parameters.
-pub fn read(file: &[u8], workers: u32, fields: u32, events: u32, at: usize) -> Step
+impl Iterator for Reader<'_> {
+    type Item = Event;
+
+    ghost next_gives = { HandsOut };
+
+    ghost remaining = { λ r. at_most (length r.file.now - r.at) };
+
+    fn next(&mut self) -> Option<Event> {
+        let (event, next) = step_at(self.file, self.at)?;
+        self.at = next;
+        Some(event)
+    }
+}
+
+// What a reader over the file hands out at a place, told by plain parameters, and the place of the next.
+pub fn read(file: &[u8], counts: Counts, at: usize) -> Option<(Event, usize)>
     ensures { result ≡ step_at file.now at }
 {
-    Reader::new(file, workers, fields, events, at).next()
+    let mut reader = Reader::new(file, counts, at);
+    let event = reader.next()?;
+    Some((event, reader.at))
 }

@@ -4,18 +4,11 @@ ghost use Rattle.recording.specs.File.{two_byte, number_at, entry_at};
 
 use crate::Entry;
 
-// A byte as a number.
-fn wide(x: u8) -> u32
-    ensures { (result ≡ x) × (result < 256) }
-{
-    x as u32
-}
-
 // The low byte comes first.
 fn two_byte(low: u8, high: u8) -> u32
     ensures { (result ≡ two_byte low high) × (result < 65536) }
 {
-    wide(low) + 256 * wide(high)
+    u32::from(u16::from_le_bytes([low, high]))
 }
 
 // The two-byte number at a place of the file.
@@ -32,8 +25,8 @@ pub fn entry_at(file: &[u8], i: usize) -> Entry
     ensures { result ≡ entry_at file.now i }
 {
     Entry {
-        kind: wide(file[i]),
-        worker: wide(file[i + 1]),
+        kind: u32::from(file[i]),
+        worker: u32::from(file[i + 1]),
         field: number_at(file, i + 2),
     }
 }
@@ -42,10 +35,7 @@ pub fn entry_at(file: &[u8], i: usize) -> Entry
 fn byte_at(file: &[u8], i: usize) -> u8
     ensures { result ≡ get_or file.now i 0 }
 {
-    if i < file.len() {
-        return file[i];
-    }
-    0
+    file.get(i).copied().unwrap_or(0)
 }
 
 // The two-byte number at any place, the end or past it too.

@@ -1,186 +1,165 @@
--- Laws of a pass over a text: the word that ends at a place, what it does to the pass, and what the words still to come give.
-use mathlib.Core.Path.{◌≡◌, refl}
-use mathlib.Core.Bool.{Bool, true, false, cond, not, ◌&&◌, and-false}
-use mathlib.Core.List.{List, [], ◌∷◌}
-use Prim.Native.Nat.{ℕ, suc, ◌+◌, ◌-◌, ◌<◌, ◌≤◌}
-use native.Mathlib.Nat.{sub-zero}
-use types.Run.{OneOf, miss}
-use denote.Enum.Declared.{tag_of}
+-- Laws of a pass over a text: which words are left of it, and what is left behind the next.
+use Rattle.std.proofs.Common.{◌≡◌, ℕ, zero, suc, ◌+◌, ◌-◌, ◌<◌, ◌≤◌, Bool, true, false, not, List, [], ◌∷◌, length, get_or, take, drop, Some, None, arith, refl, sym, ap, ◌∙◌, ⊎_elim, length-drop}
+use Rattle.std.proofs.lemmas.Option.{none-some}
+use Rattle.std.proofs.str.Laws.{order}
+use Rattle.std.specs.List.{position, prefix_len, position_or_len}
+use Rattle.std.specs.Prelude.{Option}
+use Rattle.std.proofs.lemmas.List.{get_or-drop}
+use Rattle.std.proofs.lemmas.List.Sums.{prefix_len_passes, prefix_len_stops, prefix_len-le-length, fails_before_first}
+use Rattle.std.proofs.lemmas.List.Quantifiers.{position-Some}
+use borrow.Author.Tests.{lt-ltb, le-ltb, le-leb, lt-leb, ltb-false}
+use lib.Seq.{take_all}
 use lib.Dec.{ltb}
-use lib.ListN.{length, get_or, take, drop}
-use borrow.Author.Tests.{lt-ltb, le-ltb, le-leb, lt-leb, not-true, not-false}
+use mathlib.Core.Bool.{and-false}
+use native.Mathlib.Nat.{sub-zero}
 use Rattle.sorts.proofs.Counting.{one_left, none_left}
-use Rattle.events.proofs.Tests.{bool, and_right}
-use Rattle.recording.specs.declared.Entry.{Entry}
-use Rattle.spelling.specs.declared.Number.{Number}
-use Rattle.spelling.specs.declared.Number.TheVariants.{Of, Missing}
-use Rattle.spelling.specs.declared.Heading.{Heading}
-use Rattle.spelling.specs.declared.Heading.TheVariants.{Before}
-use Rattle.spelling.specs.declared.Word.{Word}
-use Rattle.spelling.specs.declared.Word.TheVariants.{NoWord, Opens, WorkerLabel, FieldLabel, Event, Bad}
-use Rattle.spelling.specs.declared.Part.{Part}
-use Rattle.spelling.specs.declared.Part.TheVariants.{WorkerLabels, FieldLabels, EventKinds, EventWorkers, EventFields}
-use Rattle.spelling.specs.declared.Step.{Step}
-use Rattle.spelling.specs.declared.Judged.{Judged}
-use Rattle.spelling.specs.declared.Judged.TheVariants.{Fine, BadAt}
-use Rattle.spelling.specs.contracts.Word.{the_type as word-type}
-use Rattle.spelling.specs.contracts.Part.{the_type as part_type}
-use Rattle.spelling.specs.Notation.{is_blank, word_under, blank_at, heading_after, words_from, words, is_bad, first_bad, of_worker_label, of_field_label, of_event, value_of, in_front, values_in, judged}
-use Rattle.spelling.specs.Passes.{word_ending, step_at}
+use Rattle.events.proofs.Tests.{bool}
+use Rattle.spelling.specs.declared.word.Heading.{Heading}
+use Rattle.spelling.specs.declared.word.Heading.TheVariants.{Before}
+use Rattle.spelling.specs.declared.word.Word.{Word}
+use Rattle.spelling.specs.declared.words.Placed.{Placed}
+use Rattle.spelling.specs.Notation.{is_blank, blank_at, word_under, heading_after, words_from, words}
+use Rattle.spelling.specs.Passes.{left_from}
 
+-- the words from byte i on, where one has begun at start
+abbrev pass : List ℕ → Heading → ℕ → ℕ → List Placed
+pass text heading start i = words_from text heading start i (length text + 1 - i)
+
+-- a text before its first word
+pub all_left : (text : List ℕ) → left_from text Before 0 ≡ words text
+unfolding left_from words
+all_left text = rw (sub-zero (length text + 1))
+
+-- What byte i of a text is.
 module _ (text : List ℕ) (i : ℕ) where
-  pub blank_end : length text ≤ i → true ≡ blank_at text i
+  blank_end : length text ≤ i → blank_at text i ≡ true
   unfolding blank_at
   blank_end l = rw (le-leb (length text) i l)
 
-  pub blank_within : i < length text → is_blank (get_or text i 0) ≡ blank_at text i
+  blank_is : (b : Bool) → i < length text → is_blank (get_or text i 0) ≡ b → blank_at text i ≡ b
   unfolding blank_at
-  blank_within l = rw (lt-leb (length text) i l)
+  blank_is b l q = rw (lt-leb (length text) i l) q
 
-  module _ (b : Bool) (is : b ≡ blank_at text i) (heading : Heading) (start : ℕ) where
-    pub step_within : not b ≡ true → record { word = NoWord; heading = heading; start = start } ≡ step_at text heading start i
-    unfolding step_at word_ending
-    step_within t = rw (← is, not-true b t, and-false (ltb start i))
+-- One byte more.
+module _ (text : List ℕ) (heading : Heading) where
+  over_blank : (i : ℕ) → i < length text + 1 → blank_at text i ≡ true → left_from text heading i ≡ left_from text heading (i + 1)
+  unfolding left_from words_from
+  over_blank i l t = rw (one_left i (length text + 1) l, t, le-ltb i i (omega arith))
 
-    pub step_blank : not b ≡ false → i ≤ start → record { word = NoWord; heading = heading; start = i + 1 } ≡ step_at text heading start i
-    unfolding step_at word_ending
-    step_blank t l = rw (← is, not-false b t, le-ltb start i l)
+  over_byte : (start i : ℕ) → i < length text + 1 → blank_at text i ≡ false → pass text heading start i ≡ pass text heading start (i + 1)
+  unfolding words_from
+  over_byte start i l t = rw (one_left i (length text + 1) l, t, and-false)
 
-    pub step_word : (word : Word) (next : Heading) → not b ≡ false → start < i → word ≡ word_under heading (take (i - start) (drop start text)) → next ≡ heading_after heading word
-        → record { word = word; heading = next; start = i + 1 } ≡ step_at text heading start i
-    unfolding step_at word_ending
-    step_word word next t l q h = rw (h, q, ← is, not-false b t, lt-ltb start i l)
+  past_end : (i : ℕ) → length text + 1 ≤ i → left_from text heading i ≡ []
+  unfolding left_from words_from
+  past_end i l = rw (none_left i (length text + 1) l)
 
--- What is left of a word or a row, where the code has tried others.
-pub heading_same : (heading : Heading) (word : Word) → OneOf (0 ∷ 2 ∷ 3 ∷ 4 ∷ 5 ∷ []) (tag_of word-type word) → heading ≡ heading_after heading word
-heading_same heading NoWord k = refl
-heading_same heading (Opens next) k = absurd (miss (0 ∷ 2 ∷ 3 ∷ 4 ∷ 5 ∷ []) 1 tt k)
-heading_same heading (WorkerLabel n) k = refl
-heading_same heading (FieldLabel n) k = refl
-heading_same heading (Event e) k = refl
-heading_same heading Bad k = refl
+  word_ends : (start i : ℕ) (word : Option Word) → start < i → i < length text + 1 → blank_at text i ≡ true → word ≡ word_under heading (take (i - start) (drop start text))
+      → pass text heading start i ≡ record { place = start; word = word } ∷ left_from text (heading_after heading word) (i + 1)
+  unfolding left_from words_from
+  word_ends start i word s l t q = rw (q, one_left i (length text + 1) l, t, lt-ltb start i s)
 
-not_bad : (word : Word) → OneOf (0 ∷ 1 ∷ 2 ∷ 3 ∷ 4 ∷ []) (tag_of word-type word) → is_bad word ≡ false
-not_bad NoWord k = refl
-not_bad (Opens next) k = refl
-not_bad (WorkerLabel n) k = refl
-not_bad (FieldLabel n) k = refl
-not_bad (Event e) k = refl
-not_bad Bad k = absurd (miss (0 ∷ 1 ∷ 2 ∷ 3 ∷ 4 ∷ []) 5 tt k)
+  -- So many bytes more, up to byte j.
+  over_blanks : (n i j : ℕ) → j ≡ i + n → j ≤ length text + 1 → ((k : ℕ) → i ≤ k → k < j → blank_at text k ≡ true) → left_from text heading i ≡ left_from text heading j
+  over_blanks zero i j e l h = let same : i ≡ j = omega arith in rw same
+  over_blanks (suc n) i j e l h = over_blank i (omega arith) (h i (omega arith) (omega arith)) ∙ over_blanks n (i + 1) j (omega arith) l (λ k a b. h k (omega arith) b)
 
-pub value_none : (part : Part) (word : Word) → OneOf (0 ∷ 1 ∷ 5 ∷ []) (tag_of word-type word) → Missing ≡ value_of part word
-value_none part NoWord k = refl
-value_none part (Opens next) k = refl
-value_none part (WorkerLabel n) k = absurd (miss (0 ∷ 1 ∷ 5 ∷ []) 2 tt k)
-value_none part (FieldLabel n) k = absurd (miss (0 ∷ 1 ∷ 5 ∷ []) 3 tt k)
-value_none part (Event e) k = absurd (miss (0 ∷ 1 ∷ 5 ∷ []) 4 tt k)
-value_none part Bad k = refl
+  over_bytes : (start n i j : ℕ) → j ≡ i + n → j ≤ length text + 1 → ((k : ℕ) → i ≤ k → k < j → blank_at text k ≡ false) → pass text heading start i ≡ pass text heading start j
+  over_bytes start zero i j e l h = let same : i ≡ j = omega arith in rw same
+  over_bytes start (suc n) i j e l h = over_byte start i (omega arith) (h i (omega arith) (omega arith)) ∙ over_bytes start n (i + 1) j (omega arith) l (λ k a b. h k (omega arith) b)
 
-module _ (part : Part) (word : Word) where
-  module _ (n : ℕ) where
-    pub value_worker : word ≡ WorkerLabel n → part ≡ WorkerLabels → Of n ≡ value_of part word
-    value_worker q p = rw (q, p)
+abbrev begins : ℕ → Bool
+begins b = not (is_blank b)
 
-    pub value_field : word ≡ FieldLabel n → part ≡ FieldLabels → Of n ≡ value_of part word
-    value_field q p = rw (q, p)
+-- A slice of a text to its end, and its bytes.
+module _ (text : List ℕ) (i : ℕ) where
+  abbrev from : List ℕ
+  from = take (length text - i) (drop i text)
 
-    pub value_no_worker : word ≡ WorkerLabel n → OneOf (1 ∷ 2 ∷ 3 ∷ 4 ∷ []) (tag_of part_type part) → Missing ≡ value_of part word
-    value_no_worker q k = rw q (by part k)
-      where
-        by : (p : Part) → OneOf (1 ∷ 2 ∷ 3 ∷ 4 ∷ []) (tag_of part_type p) → Missing ≡ of_worker_label p n
-        by WorkerLabels k = absurd (miss (1 ∷ 2 ∷ 3 ∷ 4 ∷ []) 0 tt k)
-        by FieldLabels k = refl
-        by EventKinds k = refl
-        by EventWorkers k = refl
-        by EventFields k = refl
+  to_end : from ≡ drop i text
+  to_end = take_all (length text - i) (drop i text) (rw length-drop (omega arith))
 
-    pub value_no_field : word ≡ FieldLabel n → OneOf (0 ∷ 2 ∷ 3 ∷ 4 ∷ []) (tag_of part_type part) → Missing ≡ value_of part word
-    value_no_field q k = rw q (by part k)
-      where
-        by : (p : Part) → OneOf (0 ∷ 2 ∷ 3 ∷ 4 ∷ []) (tag_of part_type p) → Missing ≡ of_field_label p n
-        by WorkerLabels k = refl
-        by FieldLabels k = absurd (miss (0 ∷ 2 ∷ 3 ∷ 4 ∷ []) 1 tt k)
-        by EventKinds k = refl
-        by EventWorkers k = refl
-        by EventFields k = refl
+  length_to_end : length from ≡ length text - i
+  length_to_end = rw (to_end, length-drop)
 
-  module _ (e : Entry) (q : word ≡ Event e) where
-    pub value_kind : part ≡ EventKinds → Of e.kind ≡ value_of part word
-    value_kind p = rw (q, p)
+  byte_to_end : (k : ℕ) → get_or from k 0 ≡ get_or text (i + k) 0
+  byte_to_end k = rw to_end (get_or-drop i text k 0)
 
-    pub value_event_worker : part ≡ EventWorkers → Of e.worker ≡ value_of part word
-    value_event_worker p = rw (q, p)
+  -- a byte that passes the test of a search from byte i on, or does not
+  tested : (k : ℕ) (b : Bool) → i ≤ k → k < length text → begins (get_or from (k - i) 0) ≡ b → blank_at text k ≡ not b
+  tested k b l m t =
+      let same : i + (k - i) ≡ k = omega arith in
+      blank_is text k (not b) m (turned (is_blank (get_or text k 0)) b (rw (byte_to_end (k - i), same) at t))
+    where
+      turned : (blank b : Bool) → not blank ≡ b → blank ≡ not b
+      turned true b q = rw (← q)
+      turned false b q = rw (← q)
 
-    pub value_event_field : part ≡ EventFields → Of e.field ≡ value_of part word
-    value_event_field p = rw (q, p)
+module _ (text : List ℕ) (heading : Heading) (at : ℕ) (low : at ≤ length text) where
+  -- no word begins in what is left
+  pub no_word : None ≡ position begins (from text at) → left_from text heading at ≡ []
+  no_word q =
+      let m = position_or_len begins (from text at) in
+      bool (ltb m (length (from text at)))
+      (λ t. let z : None ≡ Some m = rw t at q in absurd (none-some m z))
+      (λ t.
+      let far = ltb-false m (length (from text at)) t in
+      let size = length_to_end text at in
+      over_blanks text heading (length text + 1 - at) at (length text + 1) (omega arith) (omega arith) (λ k a b.
+      ⊎_elim
+      (λ within. tested text at k false a within (fails_before_first begins (from text at) (k - at) 0 (omega arith)))
+      (λ beyond. blank_end text k beyond)
+      (order k (length text)))
+      ∙ past_end text heading (length text + 1) (omega arith))
 
-    pub value_no_event : OneOf (0 ∷ 1 ∷ []) (tag_of part_type part) → Missing ≡ value_of part word
-    value_no_event k = rw q (by part k)
-      where
-        by : (p : Part) → OneOf (0 ∷ 1 ∷ []) (tag_of part_type p) → Missing ≡ of_event p e
-        by WorkerLabels k = refl
-        by FieldLabels k = refl
-        by EventKinds k = absurd (miss (0 ∷ 1 ∷ []) 2 tt k)
-        by EventWorkers k = absurd (miss (0 ∷ 1 ∷ []) 3 tt k)
-        by EventFields k = absurd (miss (0 ∷ 1 ∷ []) 4 tt k)
+  module _ (n k : ℕ) (found : Some n ≡ position begins (from text at)) (long : k ≡ prefix_len begins (from text (at + n))) where
+    first : (n < length (from text at)) × (begins (get_or (from text at) n 0) ≡ true) × ((i : ℕ) → i < n → begins (get_or (from text at) i 0) ≡ false)
+    first = position-Some begins (from text at) n 0 (sym found)
 
--- What the words that end from place i on give: the answer, and the values of a row.
-unfoldable pub bad_from : List ℕ → Heading → ℕ → ℕ → Judged
-bad_from text heading start i = first_bad (words_from text heading start i (length text + 1 - i))
+    fits : at + n < length text
+    fits = let size = length_to_end text at in let l = first.0 in omega arith
 
-unfoldable pub values_from : Part → List ℕ → Heading → ℕ → ℕ → List ℕ
-values_from part text heading start i = values_in part (words_from text heading start i (length text + 1 - i))
+    within : at + n + k ≤ length text
+    within = let size = length_to_end text (at + n) in let l = prefix_len-le-length begins (from text (at + n)) in let b = fits in omega arith
 
-module _ (text : List ℕ) where
-  pub judged_long : 262144 < length text → BadAt 262144 ≡ judged text
-  unfolding judged
-  judged_long l = rw (lt-leb (length text) 262144 l)
+    -- what stands behind the word is a blank or the end of the text
+    ends : blank_at text (at + n + k) ≡ true
+    ends =
+        let size = length_to_end text (at + n) in
+        ⊎_elim
+        (λ l.
+        let short : prefix_len begins (from text (at + n)) < length (from text (at + n)) = omega arith in
+        let same : at + n + k - (at + n) ≡ k = omega arith in
+        tested text (at + n) (at + n + k) false (omega arith) l (rw (same, long) (prefix_len_stops begins (from text (at + n)) 0 short)))
+        (λ l. blank_end text (at + n + k) l)
+        (order (at + n + k) (length text))
 
-  pub judged_start : length text ≤ 262144 → bad_from text Before 0 0 ≡ judged text
-  unfolding judged bad_from words
-  judged_start l = rw (le-leb (length text) 262144 l, sub-zero (length text + 1))
+    -- the word has a byte, since it begins where no blank stands
+    some : 0 < k
+    some =
+        let same : at + n - at ≡ n = omega arith in
+        let no_blank : blank_at text (at + n) ≡ false = tested text at (at + n) true (omega arith) fits (rw same first.1) in
+        ⊎_elim
+        (λ l. l)
+        (λ l.
+        let none : at + n + k ≡ at + n = omega arith in
+        let blank : blank_at text (at + n) ≡ true = rw none at ends in
+        let z : ◌≡◌ {A = ℕ} 0 1 = cc in
+        absurd (omega arith))
+        (order 0 k)
 
-  pub values_start : (part : Part) → values_from part text Before 0 0 ≡ values_in part (words text)
-  unfolding values_from words
-  values_start part = rw (sub-zero (length text + 1))
+    pub next_word : (word : Option Word) → word ≡ word_under heading (take (at + n + k - (at + n)) (drop (at + n) text))
+        → left_from text heading at ≡ record { place = at + n; word = word } ∷ left_from text (heading_after heading word) (at + n + k)
+    unfolding left_from
+    next_word word q =
+        let b = fits in
+        let w = within in
+        over_blanks text heading n at (at + n) refl (omega arith) (λ i a l. tested text at i false a (omega arith) (first.2 (i - at) (omega arith)))
+        ∙ over_bytes text heading (at + n) k (at + n) (at + n + k) refl (omega arith) (λ i a l. tested text (at + n) i true a (omega arith) (prefix_len_passes begins (from text (at + n)) (i - (at + n)) 0 (omega arith)))
+        ∙ word_ends text heading (at + n) (at + n + k) word (let s = some in omega arith) (omega arith) ends q
+        ∙ ap (λ ws. record { place = at + n; word = word } ∷ ws) (sym (over_blank text (heading_after heading word) (at + n + k) (omega arith) ends))
 
-module _ (text : List ℕ) (heading : Heading) (start i : ℕ) where
-  -- one place more
-  bad_step : (left : ℕ) (step : Step) → step ≡ step_at text heading start i → first_bad (words_from text heading start i (suc left))
-      ≡ cond (is_bad step.word) (BadAt start) (first_bad (words_from text step.heading step.start (i + 1) left))
-  unfolding words_from step_at word_ending first_bad
-  bad_step left step q =
-      bool (ltb start i && blank_at text i)
-      (λ t. rw (q, t, and_right (ltb start i) (blank_at text i) t))
-      (λ t. rw (q, t))
-
-  values_step : (part : Part) (left : ℕ) (step : Step) → step ≡ step_at text heading start i → values_in part (words_from text heading start i (suc left))
-      ≡ in_front (value_of part step.word) (values_in part (words_from text step.heading step.start (i + 1) left))
-  unfolding words_from step_at word_ending values_in
-  values_step part left step q =
-      bool (ltb start i && blank_at text i)
-      (λ t. rw (q, t, and_right (ltb start i) (blank_at text i) t))
-      (λ t. rw (q, t))
-
-  module _ (so_far : bad_from text heading start i ≡ judged text) where
-    pub judged_bad : (step : Step) → i < length text + 1 → step ≡ step_at text heading start i → step.word ≡ Bad → BadAt start ≡ judged text
-    unfolding bad_from
-    judged_bad step l q e = rw (one_left i (length text + 1) l, bad_step (length text + 1 - (i + 1)) step q, e) at so_far
-
-    pub judged_next : (step : Step) → i < length text + 1 → step ≡ step_at text heading start i → OneOf (0 ∷ 1 ∷ 2 ∷ 3 ∷ 4 ∷ []) (tag_of word-type step.word)
-        → bad_from text step.heading step.start (i + 1) ≡ judged text
-    unfolding bad_from
-    judged_next step l q k = rw (one_left i (length text + 1) l, bad_step (length text + 1 - (i + 1)) step q, not_bad step.word k) at so_far
-
-    pub judged_end : length text + 1 ≤ i → Fine ≡ judged text
-    unfolding bad_from words_from first_bad
-    judged_end l = rw (none_left i (length text + 1) l) at so_far
-
-  pub values_next : (part : Part) (step : Step) (v : Number) → i < length text + 1 → step ≡ step_at text heading start i → v ≡ value_of part step.word
-      → values_from part text heading start i ≡ in_front v (values_from part text step.heading step.start (i + 1))
-  unfolding values_from
-  values_next part step v l q r = rw (one_left i (length text + 1) l, values_step part (length text + 1 - (i + 1)) step q, ← r)
-
-  pub values_end : (part : Part) → length text + 1 ≤ i → values_from part text heading start i ≡ []
-  unfolding values_from words_from values_in
-  values_end part l = rw (none_left i (length text + 1) l)
+    -- fewer words are left behind it
+    pub fewer : (word : Option Word) → word ≡ word_under heading (take (at + n + k - (at + n)) (drop (at + n) text))
+        → length (left_from text (heading_after heading word) (at + n + k)) < length (left_from text heading at)
+    fewer word q = rw (next_word word q) (omega arith)

@@ -2,59 +2,37 @@
 // word and byte of what it lent. tests/reference/README.md has the protocol.
 #![tactic(auto)]
 
-ghost use Rattle.std.specs.Prelude.{◌≡◌, length};
-
+use std::io;
 use std::io::Read;
+use wire::{Input, Output};
 
-mod wire; // wire.rt: numbers on the wire
+mod wire; // wire.rt: what comes in and what goes out
+mod lent; // lent.rt: what is lent to the finders and the writer
 mod finding; // finding.rt: the finders' requests
 mod rows; // rows.rt: the writer's requests
 
-// A request's head: nine numbers.
-fn head_space() -> [u8; 36]
-    ensures { 36 ≡ length result }
-{
-    [0; 36]
-}
-
-// Answers one request by way of the space that is lent; false where the stream has ended or cannot go on.
-fn serve(rt: &impl Print, input: &mut impl Read, space: &mut [u8], out: &mut [u8]) -> bool {
-    let mut head = head_space();
-    if !wire::receive(input, &mut head, 36) {
-        return false;
-    }
+// Answers one request, which begins with two numbers; an error where the stream has ended or cannot go on.
+fn serve(input: &mut Input<impl Read>, out: &mut Output<impl Print>) -> io::Result<()> {
+    let mut head = [0; 2];
+    input.numbers(&mut head)?;
+    let [size, noise] = head;
     // A length that no file has marks a request to the writer.
-    if wire::number(&head, 0) == 4294967294 {
-        return rows::serve(rt, input, &head, space, out);
+    if size == 4_294_967_294 {
+        return rows::serve(noise, input, out);
     }
-    finding::serve(rt, input, &head, space, out)
+    finding::serve(size, noise, input, out)
 }
 
-// Answers requests until the stream ends.
-fn serve_all(rt: &impl Print, input: &mut impl Read, space: &mut [u8], out: &mut [u8]) {
+// Answers requests until the stream ends. They are counted, since a loop is proved to end.
+fn serve_all(input: &mut Input<impl Read>, out: &mut Output<impl Print>) -> io::Result<()> {
     for _ in 0..1_000_000_000u64 {
-        if !serve(rt, input, space, out) {
-            return;
-        }
+        serve(input, out)?;
     }
-}
-
-// The longest request after its head: 66,000 numbers.
-fn request_space() -> [u8; 264000]
-    ensures { 264000 ≡ length result }
-{
-    [0; 264000]
-}
-
-// The longest piece of a response: the rows read back, and four numbers.
-fn response_space() -> [u8; 194128]
-    ensures { 194128 ≡ length result }
-{
-    [0; 194128]
+    Ok(())
 }
 
 fn main(rt: HostRuntime) {
-    let mut space = request_space();
-    let mut out = response_space();
-    serve_all(&rt, &mut rt.stdin(), &mut space, &mut out);
+    let mut input = Input::new(rt.stdin());
+    let mut out = Output::new(&rt);
+    let _ = serve_all(&mut input, &mut out);
 }

@@ -2,51 +2,35 @@
 use mathlib.Core.Path.{◌≡◌, refl, sym, ◌∙◌, ap}
 use mathlib.Core.Bool.{cond, ◌&&◌}
 use mathlib.Core.List.{List, ◌++◌}
-use Prim.Native.Nat.{ℕ, zero, suc, ◌+◌, ◌*◌, ◌-◌, ◌/◌, ◌%◌, ◌<◌, ◌≤◌}
+use Prim.Native.Nat.{ℕ, zero, suc, ◌+◌, ◌*◌, ◌/◌, ◌%◌, ◌<◌, ◌≤◌}
 use native.Mathlib.Nat.{add-zero}
 use native.Mathlib.Omega.{arith}
+use Rattle.std.proofs.lemmas.Grind.{common_steps}
+use Rattle.std.proofs.lemmas.Slice.{drop-append-drop}
 use lib.Dec.{eqb, ltb}
-use lib.ListN.{length, get_or, set, replicate, take, drop, length-append, length-replicate, length-take, length-drop, length-set, get_or-replicate, get_or-append, take-append-drop}
-use lib.Seq.{get_or-set_same, get_or-set_other, get_or-append-add, get_or-take, get_or-drop, drop_at, drop-drop, drop-set-lt, ext_get_or}
-use borrow.Author.Fill.{fill_more}
+use lib.ListN.{length, get_or, set, replicate, take, drop, length-append, length-replicate, length-take, length-drop, length-set, take-append-drop}
+use lib.Seq.{get_or-set_same, get_or-set_other, get_or-take, drop-set-lt, ext_get_or}
 use borrow.Author.Tests.{eq-eqb, ne_eqb, ltb-true, ltb-false}
 use Rattle.events.proofs.Tests.{bool, same}
 use Rattle.tables.specs.Lent.{listed, showing, cells, filled, Shown}
 
--- a table that is filled from the front, and has come to word i
+-- a table that is filled from the front
 module _ (v : ℕ) (d : List ℕ) where
-  pub filled_none : d ≡ filled 0 v d
-  unfolding filled
-  filled_none = refl
-
-  pub filled_more : (n i : ℕ) (l : List ℕ) → l ≡ filled i v d → i < n → n ≤ length d → set l i v ≡ filled (i + 1) v d
-  unfolding filled
-  filled_more n i l q a b = rw q (fill_more i v d (omega arith))
-
-  pub filled_all : (n i : ℕ) (l : List ℕ) → l ≡ filled i v d → i ≤ n → n ≤ i → l ≡ filled n v d
-  filled_all n i l q a b = let e : i ≡ n = omega arith in rw (← e) q
-
   pub length-filled : (n : ℕ) → n ≤ length d → length (filled n v d) ≡ length d
   unfolding filled
   length-filled n l = rw (length-append, length-replicate, length-drop) (omega arith)
 
   drop-filled : (n m : ℕ) → n ≤ m → drop m (filled n v d) ≡ drop m d
   unfolding filled
-  drop-filled n m l =
-      let q : m ≡ n + (m - n) = omega arith in
-      rw q
-      (sym (drop-drop (m - n) n (replicate n v ++ drop n d)) ∙ ap (drop (m - n)) (drop_at (replicate n v) (drop n d) n (length-replicate n v)) ∙ drop-drop (m - n) n d)
+  drop-filled n m l = drop-append-drop n d (replicate n v) m l (length-replicate n v)
 
   get_or-past : (n i : ℕ) → n ≤ i → get_or (filled n v d) i 0 ≡ get_or d i 0
   unfolding filled
-  get_or-past n i l =
-      let q : i ≡ n + (i - n) = omega arith in
-      rw q
-      (ap (λ (k : ℕ). get_or (replicate n v ++ drop n d) (k + (i - n)) 0) (sym (length-replicate n v)) ∙ get_or-append-add (replicate n v) (drop n d) (i - n) 0 ∙ get_or-drop n d (i - n) 0)
+  get_or-past n i l = grind (arith, common_steps)
 
   get_or-filled : (n i : ℕ) → i < n → get_or (filled n v d) i 0 ≡ v
   unfolding filled
-  get_or-filled n i l = get_or-append (replicate n v) (drop n d) 0 i (rw length-replicate l) ∙ get_or-replicate n i v 0 l
+  get_or-filled n i l = grind (arith, common_steps)
 
 -- a word after a store
 pub get_or-set : (l : List ℕ) (i a j : ℕ) → i < length l → get_or (set l i a) j 0 ≡ cond (eqb i j) a (get_or l j 0)

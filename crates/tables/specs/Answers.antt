@@ -1,30 +1,39 @@
--- What the enums of the code say, in document 01's numbers.
-use Rattle.std.specs.Prelude.{ℕ}
+-- What the types of the code say, in document 01's numbers.
+use Rattle.std.specs.Prelude.{ℕ, Option, Some, None, Result, Ok, Err}
 use Rattle.events.specs.Search.{Found, at, none}
 use Rattle.events.specs.Verdicts.{accepted, reported}
 use Rattle.events.specs.Verdicts as papers
-use Rattle.tables.specs.declared.Other.{Other}
-use Rattle.tables.specs.declared.Other.TheVariants.{Worker, Nobody}
-use Rattle.tables.specs.declared.Verdict.{Verdict}
-use Rattle.tables.specs.declared.Verdict.TheVariants.{Accepted, Reported}
-use Rattle.tables.specs.declared.Answer.{Answer}
-use Rattle.tables.specs.declared.Answer.TheVariants.{Refused, Accepted as Answer-accepted, Reported as Answer-reported}
+use Rattle.recording.specs.Refusals.{number_of}
+use Rattle.sorts.specs.declared.Worker.{Worker}
+use Rattle.tables.specs.declared.Sort.{Sort}
+use Rattle.tables.specs.declared.Sort.TheVariants.{WriteAfterWrite, WriteAfterRead, ReadAfterWrite}
+use Rattle.tables.specs.declared.Report.{Report}
+use Rattle.tables.specs.declared.Objection.{Objection}
+use Rattle.tables.specs.declared.Objection.TheVariants.{Refused, Reported}
 
-abbrev pub found_of : Other → Found
-found_of (Worker w) = at w.0
-found_of Nobody = none
+abbrev pub found_of : Option Worker → Found
+found_of (Some w) = at w.0
+found_of None = none
+
+abbrev pub sort_number : Sort → ℕ
+sort_number WriteAfterWrite = 1
+sort_number WriteAfterRead = 2
+sort_number ReadAfterWrite = 3
 
 -- event, sort, worker, other worker, field
-abbrev pub verdict_of : Verdict → papers.Verdict
-verdict_of Accepted = accepted
-verdict_of (Reported n s w u f) = reported n s w.0 u.0 f.0
+abbrev pub report_of : Report → papers.Verdict
+report_of r = reported r.event (sort_number r.sort) r.worker.0 r.other.0 r.field.0
+
+abbrev pub verdict_of : Result (Unit {0}) Report → papers.Verdict
+verdict_of (Ok _) = accepted
+verdict_of (Err r) = report_of r
 
 -- what is said of a file: its refusal by number and place, or the verdict on its recording
 pub data Said : Type 0 where
   refused : ℕ → ℕ → Said
   judged : papers.Verdict → Said
 
-abbrev pub said_by : Answer → Said
-said_by (Refused number place) = refused number place
-said_by Answer-accepted = judged accepted
-said_by (Answer-reported n s w u f) = judged (reported n s w.0 u.0 f.0)
+abbrev pub said_by : Result (Unit {0}) Objection → Said
+said_by (Ok _) = judged accepted
+said_by (Err (Refused r)) = refused (number_of r.reason) r.place
+said_by (Err (Reported r)) = judged (report_of r)

@@ -1,9 +1,8 @@
 -- What both finders' statements are made of: the verdicts on a file, the answer to it, and each lent table after it.
-use Rattle.std.specs.Prelude.{List, [], ℕ}
+use Rattle.std.specs.Prelude.{Ok, Err, List, [], ℕ}
 use Rattle.events.specs.Acts.{History, Recording, recording_of, before}
 use Rattle.events.specs.Verdicts.{Verdict, accepted, reported, early_verdict, late_verdict}
-use Rattle.recording.specs.declared.Fault.{Fault}
-use Rattle.recording.specs.declared.Fault.TheVariants.{Fine, Refused}
+use Rattle.recording.specs.Refusals.{Fault, number_of}
 use Rattle.recording.specs.File.{events_in, worker_count, field_count, event_count}
 use Rattle.flags.specs.Flags.{first_flag}
 use Rattle.tables.specs.Lent.{showing}
@@ -21,8 +20,8 @@ late_of file = late_verdict (worker_count file) (field_count file) (first_flag f
 
 -- a refused file gets number and place, any other the verdict on its recording
 abbrev pub said : Fault → Verdict → Said
-said (Refused number place) v = refused number place
-said Fine v = judged v
+said (Err r) v = refused (number_of r.reason) r.place
+said (Ok _) v = judged v
 
 -- the event that a verdict reports, or the event count
 abbrev pub stop : Verdict → ℕ → ℕ
@@ -35,5 +34,5 @@ shown_by file v = before [] (acts_in file) (stop v (event_count file))
 
 -- A lent table after the answer: a refusal changes no word.
 abbrev pub leaving : Fault → ℕ → (ℕ → ℕ) → List ℕ → List ℕ
-leaving (Refused number place) full word lent = lent
-leaving Fine full word lent = showing full word lent
+leaving (Err _) full word lent = lent
+leaving (Ok _) full word lent = showing full word lent

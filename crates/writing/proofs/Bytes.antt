@@ -1,15 +1,23 @@
 -- Laws of a file's bytes: items of one length, a section put into a buffer item by item.
 use mathlib.Core.Path.{◌≡◌, refl, sym, ◌∙◌}
-use mathlib.Core.List.{List, [], ◌∷◌, ◌++◌, append_assoc, append-nil}
+use mathlib.Core.List.{List, ◌++◌, append_assoc, append-nil}
 use Prim.Native.Nat.{ℕ, zero, suc, ◌+◌, ◌*◌, ◌<◌, ◌≤◌}
 use native.Mathlib.Numerals.{add-one}
 use native.Mathlib.Omega.{arith}
 use lib.ListN.{length, get_or, length-append}
-use Rattle.recording.specs.declared.Entry.{Entry}
+use lib.Seq.{take_all}
+use borrow.Rule.Slice.PartMut.{put_mid}
+use Rattle.std.proofs.lemmas.Slice.{put_mid-paste}
 use Rattle.byte_rows.specs.Buffer.{put}
-use Rattle.writing.specs.Writing.{number_of, entry_of, two_bytes, entry_bytes, items, section_of}
-use Rattle.writing.specs.Parts.{label_bytes, event_bytes_of, EntryFits, LabelsFit, EntriesFit}
+use Rattle.writing.specs.declared.Events.{Events}
+use Rattle.writing.specs.Writing.{number_of, two_bytes, entry_bytes, items, section_of}
+use Rattle.writing.specs.Parts.{count_of, event_in, label_bytes, event_bytes_of}
 use Rattle.byte_rows.proofs.Buffer.{put_put, put_nothing}
+
+-- bytes copied into a part of a buffer
+pub copied : (lent bytes now : List ℕ) (at k : ℕ) → now ≡ bytes → k ≡ length bytes → put_mid at k lent now ≡ put lent at bytes
+unfolding put
+copied lent bytes now at k q l = put_mid-paste at k lent now bytes (length bytes) q (sym l) refl ∙ rw (take_all (length bytes) bytes (omega arith))
 
 -- items that have m bytes each
 module _ (bytes : ℕ → List ℕ) (m : ℕ) (each : (j : ℕ) → length (bytes j) ≡ m) where
@@ -45,14 +53,10 @@ pub section_put : (bytes : ℕ → List ℕ) (count : ℕ) (lent : List ℕ) (at
 unfolding section_of
 section_put bytes count lent at k now later room p q = q ∙ rw p (put_put lent at (two_bytes count) (omega arith) (items bytes 0 count))
 
--- no item yet, and all of them
-module _ (bytes : ℕ → List ℕ) (lent : List ℕ) (at : ℕ) where
-  pub none_put : lent ≡ put lent at (items bytes 0 0)
-  unfolding items
-  none_put = put_nothing lent at
-
-  pub all_put : (count n : ℕ) (now : List ℕ) → n ≤ count → count ≤ n → now ≡ put lent at (items bytes 0 n) → now ≡ put lent at (items bytes 0 count)
-  all_put count n now l k q = let z : n ≡ count = omega arith in rw z at q
+-- no item yet
+pub none_put : (bytes : ℕ → List ℕ) (lent : List ℕ) (at : ℕ) → lent ≡ put lent at (items bytes 0 0)
+unfolding items
+none_put bytes lent at = put_nothing lent at
 
 -- the next label, and the next event
 pub label_put : (row lent : List ℕ) (at n : ℕ) (now later : List ℕ) → at + 2 * length row ≤ length lent → n < length row
@@ -60,20 +64,6 @@ pub label_put : (row lent : List ℕ) (at n : ℕ) (now later : List ℕ) → at
 unfolding number_of
 label_put row lent at n now later room l p q = item_put (label_bytes row) 2 (λ _. refl) lent at n now later (omega arith) p q
 
-pub event_next : (kinds workers fields lent : List ℕ) (at n : ℕ) (e : Entry) (now later : List ℕ) → at + 4 * length kinds ≤ length lent → n < length kinds
-    → e ≡ entry_of kinds workers fields n → now ≡ put lent at (items (event_bytes_of kinds workers fields) 0 n)
-    → later ≡ put now (at + 4 * n) (entry_bytes e) → later ≡ put lent at (items (event_bytes_of kinds workers fields) 0 (n + 1))
-event_next kinds workers fields lent at n e now later room l k p q =
-    item_put (event_bytes_of kinds workers fields) 4 (λ _. refl) lent at n now later (omega arith) p (rw k at q)
-
--- an event's bytes: two and then its field
-pub event_put : (e : Entry) (lent : List ℕ) (at : ℕ) (now later : List ℕ) → at + 4 ≤ length lent → now ≡ put lent at (e.kind ∷ e.worker ∷ [])
-    → later ≡ put now (at + 2) (two_bytes e.field) → later ≡ put lent at (entry_bytes e)
-event_put e lent at now later room p q = q ∙ rw p (put_put lent at (e.kind ∷ e.worker ∷ []) (omega arith) (two_bytes e.field))
-
--- what is put fits
-pub label_in : (row : List ℕ) (n : ℕ) → LabelsFit row → n < length row → get_or row n 0 < 65536
-label_in row n fit l = fit.label_fits n l
-
-pub entry_in_lem : (kinds workers fields : List ℕ) (n : ℕ) (e : Entry) → EntriesFit kinds workers fields → n < length kinds → e ≡ entry_of kinds workers fields n → EntryFits e
-entry_in_lem kinds workers fields n e fit l q = rw q (fit.entry_fits n l)
+pub event_put : (e : Events) (lent : List ℕ) (at n : ℕ) (now later : List ℕ) → at + 4 * count_of e ≤ length lent → n < count_of e
+    → now ≡ put lent at (items (event_bytes_of e) 0 n) → later ≡ put now (at + 4 * n) (entry_bytes (event_in e n)) → later ≡ put lent at (items (event_bytes_of e) 0 (n + 1))
+event_put e lent at n now later room l p q = item_put (event_bytes_of e) 4 (λ _. refl) lent at n now later (omega arith) p q

@@ -5,12 +5,10 @@ use Prim.Native.Nat.{ℕ, zero, suc, ◌+◌, ◌*◌, ◌/◌, ◌%◌, ◌<◌
 use native.Mathlib.Omega.{arith}
 use lib.ListN.{length, get_or, take, drop, get_or-append}
 use lib.Seq.{get_or-append-add, take_at}
-use Rattle.recording.specs.declared.Fault.{Fault}
-use Rattle.recording.specs.declared.Fault.TheVariants.{Fine, Refused}
+use Rattle.std.specs.Prelude.{Result, Ok, Err}
+use Rattle.recording.specs.declared.refusal.Refusal.{Refusal}
+use Rattle.recording.specs.Refusals.{Fault, fine}
 use Rattle.recording.specs.declared.Entry.{Entry}
-use Rattle.recording.specs.declared.Checked.TheVariants.{Fine as Checked-fine}
-use Rattle.writing.specs.declared.Written.{Written}
-use Rattle.writing.specs.declared.Written.TheVariants.{Bytes}
 use Rattle.recording.specs.Tests.{Contents, fields_at, events_at}
 use Rattle.recording.specs.File.{two_byte, number_at, label_at, entry_at, entries_at, worker_count, field_count, event_count, worker_label, field_label, entry_in, event_at, contents_in, checked}
 use Rattle.recording.specs.WellFormed.{WellFormed}
@@ -152,7 +150,7 @@ module _ (c : Contents) where
       }
 
 -- rows that pass the tests
-module _ (r : Rows) (fine : rows_tests r ≡ Fine) where
+module _ (r : Rows) (passes : rows_tests r ≡ fine) where
   abbrev c : Contents
   c = contents_of r
 
@@ -160,7 +158,7 @@ module _ (r : Rows) (fine : rows_tests r ≡ Fine) where
   made = file_of (contents_of r)
 
   all : Whole r
-  all = whole r fine
+  all = whole r passes
 
   back : Agrees (contents_in made) c
   back = reads_back c
@@ -182,8 +180,7 @@ module _ (r : Rows) (fine : rows_tests r ≡ Fine) where
       let n₁ = back.workers in
       let n₂ = back.fields in
       let n₃ = back.events in
-      let n₄ = fit.as_many_workers in
-      let n₅ = fit.as_many_fields in
+      let n₄ = fit.all_whole in
       rw (
         row_back (worker_label made) (worker_count made) r.worker_labels n₁ back.worker_labels,
         row_back (field_label made) (field_count made) r.field_labels n₂ back.field_labels,
@@ -193,15 +190,15 @@ module _ (r : Rows) (fine : rows_tests r ≡ Fine) where
       )
 
 -- READING A WRITTEN FILE: where the writer answers so many bytes, they are a file that the check accepts with the rows' counts, and the labels and events read from it are the rows.
-module _ (r : Rows) (lent : List ℕ) (answer : Written) (buffer : List ℕ) (n : ℕ) (w : Writes r lent answer buffer) (says : answer ≡ Bytes n) where
-  passed : (write_tests (length lent) r ≡ Fine) × (n ≡ length (file_of (contents_of r)))
+module _ (r : Rows) (lent : List ℕ) (answer : Result ℕ Refusal) (buffer : List ℕ) (n : ℕ) (w : Writes r lent answer buffer) (says : answer ≡ Ok n) where
+  passed : (write_tests (length lent) r ≡ fine) × (n ≡ length (file_of (contents_of r)))
   passed = by (write_tests (length lent) r) refl (sym says ∙ w.answers)
     where
-      by : (x : Fault) → write_tests (length lent) r ≡ x → Bytes n ≡ wrote x (file_of (contents_of r)) → (write_tests (length lent) r ≡ Fine) × (n ≡ length (file_of (contents_of r)))
-      by Fine e q = (e, cc)
-      by (Refused number place) e q = let z : ◌≡◌ {A = ℕ} 0 1 = cc in absurd (omega arith)
+      by : (x : Fault) → write_tests (length lent) r ≡ x → Ok n ≡ wrote x (file_of (contents_of r)) → (write_tests (length lent) r ≡ fine) × (n ≡ length (file_of (contents_of r)))
+      by (Ok done) e q = (e, cc)
+      by (Err refusal) e q = let z : ◌≡◌ {A = ℕ} 0 1 = cc in absurd (omega arith)
 
-  rows_fine : rows_tests r ≡ Fine
+  rows_fine : rows_tests r ≡ fine
   unfolding write_tests
   rows_fine = (then_fine (rows_tests r) _ passed.0).0
 
@@ -210,7 +207,7 @@ module _ (r : Rows) (lent : List ℕ) (answer : Written) (buffer : List ℕ) (n 
       let p = passed in
       rw (w.bytes, p.0) (take_at (file_of (contents_of r)) (drop (length (file_of (contents_of r))) lent) n (sym p.1))
 
-  pub read_accepted : checked (take n buffer) ≡ Checked-fine (record { workers = length r.worker_labels; fields = length r.field_labels; events = length r.kinds })
+  pub read_accepted : checked (take n buffer) ≡ Ok (record { workers = length r.worker_labels; fields = length r.field_labels; events = length r.kinds })
   read_accepted =
       let b = reads_back (contents_of r) in
       let e = (whole r rows_fine).events_count in

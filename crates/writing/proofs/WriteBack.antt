@@ -7,16 +7,16 @@ use native.Mathlib.Omega.{arith}
 use lib.ListN.{length, get_or, take, drop, length-drop, take-append-drop}
 use lib.Seq.{take-add, take_all, drop-drop, drop-cons}
 use borrow.Author.Tests.{le-leb}
-use Rattle.recording.specs.declared.Fault.TheVariants.{Fine}
-use Rattle.writing.specs.declared.Written.{Written}
-use Rattle.writing.specs.declared.Written.TheVariants.{Bytes}
+use Rattle.std.specs.Prelude.{Result, Ok}
+use Rattle.recording.specs.declared.refusal.Refusal.{Refusal}
+use Rattle.recording.specs.Refusals.{fine}
 use Rattle.recording.specs.Tests.{Contents, fields_at, events_at}
 use Rattle.recording.specs.File.{number_at, label_at, entry_at, entries_at, worker_count, field_count, event_count, worker_label, field_label, entry_in, event_at, contents_in}
 use Rattle.recording.specs.WellFormed.{WellFormed}
 use Rattle.writing.specs.Writing.{Rows, number_of, entry_of, longest, shortest, reach, contents_of, size_of, rows_tests, write_tests, two_bytes, entry_bytes, items, section_of, labels_of, events_of, file_of, Writes, numbers_of, listed, rows_in}
 use Rattle.recording.proofs.Tests.{fine_first, fine_need}
 use Rattle.recording.proofs.WellFormed.{formed_fine}
-use Rattle.writing.proofs.RowTests.{fitting_whole, one_length, reach_whole}
+use Rattle.writing.proofs.RowTests.{fitting_whole, reach_whole}
 use Rattle.writing.proofs.Contents.{Agrees, agrees_formed, file_same}
 use Rattle.writing.proofs.Listed.{numbers_back, length-listed, number_listed}
 
@@ -102,8 +102,10 @@ module _ (s : List ℕ) (bytes : (i : ℕ) → get_or s i 0 < 256) where
     one : (longest r.kinds r.workers r.fields ≡ event_count s) × (shortest r.kinds r.workers r.fields ≡ event_count s)
     unfolding rows_in
     one =
-        one_length r.kinds r.workers r.fields (event_count s) (length-listed _ 0 (event_count s)) (length-listed _ 0 (event_count s))
-        (length-listed _ 0 (event_count s))
+        let kinds = length-listed (λ n. (numbers_of (event_at s n)).kind) 0 (event_count s) in
+        let workers = length-listed (λ n. (numbers_of (event_at s n)).worker) 0 (event_count s) in
+        let fields = length-listed (λ n. (numbers_of (event_at s n)).field) 0 (event_count s) in
+        (omega arith, omega arith)
 
     agree : Agrees c (contents_in s)
     unfolding rows_in entry_of
@@ -138,19 +140,19 @@ module _ (s : List ℕ) (bytes : (i : ℕ) → get_or s i 0 < 256) where
         let f = fitting_whole (number_of r.field_labels) 0 (length r.field_labels) (λ j l. rw (a.field_labels j (omega arith)) (label_two (fields_at (worker_count s) + 2) j)) in
         reach_whole r (omega arith) (omega arith) ∙ rw (W, F, one.1) (sym good.size)
 
-    tests_pass : rows_tests r ≡ Fine
+    tests_pass : rows_tests r ≡ fine
     unfolding rows_tests
     tests_pass = formed_fine (reach r) c (rw reached (agrees_formed (length s) c (contents_in s) agree good))
 
 -- WRITING WHAT WAS READ: the rows read from a well-formed file of bytes, written into a buffer that is long enough, give back the same bytes, and the buffer keeps its tail.
 pub writes_back : (s : List ℕ) → ((i : ℕ) → get_or s i 0 < 256) → WellFormed s → (lent : List ℕ) → length s ≤ length lent
-    → (answer : Written) (buffer : List ℕ) → Writes (rows_in s) lent answer buffer → (answer ≡ Bytes (length s)) × (buffer ≡ s ++ drop (length s) lent)
+    → (answer : Result ℕ Refusal) (buffer : List ℕ) → Writes (rows_in s) lent answer buffer → (answer ≡ Ok (length s)) × (buffer ≡ s ++ drop (length s) lent)
 unfolding write_tests
 writes_back s bytes good lent room answer buffer w =
     let a = agree s bytes good in
     let c = contents_of (rows_in s) in
     let file : file_of c ≡ s = file_same c (contents_in s) a ∙ file_back s bytes good in
     let size : size_of c ≡ length s = rw (a.workers, a.fields, a.events) (sym good.size) in
-    let fine : write_tests (length lent) (rows_in s) ≡ Fine =
+    let passes : write_tests (length lent) (rows_in s) ≡ fine =
     fine_first _ _ (tests_pass s bytes good) ∙ fine_need _ _ _ (le-leb (size_of c) (length lent) (omega arith)) in
-    (w.answers ∙ rw (fine, file), w.bytes ∙ rw (fine, file))
+    (w.answers ∙ rw (passes, file), w.bytes ∙ rw (passes, file))

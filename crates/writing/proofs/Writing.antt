@@ -6,19 +6,20 @@ use native.Mathlib.Omega.{arith}
 use lib.Dec.{leb}
 use lib.ListN.{length, length-append}
 use borrow.Author.Tests.{lt-ltb, le-ltb, le-leb, lt-leb}
-use Rattle.recording.specs.declared.Fault.{Fault}
-use Rattle.recording.specs.declared.Fault.TheVariants.{Fine, Refused}
+use Rattle.std.specs.Prelude.{Result, Ok, Err}
+use Rattle.recording.specs.declared.refusal.Reason.TheVariants.{ShortBuffer}
+use Rattle.recording.specs.declared.refusal.Refusal.{Refusal}
+use Rattle.recording.specs.Refusals.{Fault, fine, refused}
 use Rattle.recording.specs.declared.Entry.{Entry}
-use Rattle.writing.specs.declared.Written.{Written}
-use Rattle.writing.specs.declared.Written.TheVariants.{Refused as Written-refused, Bytes}
 use Rattle.recording.specs.Tests.{need, ◌then◌, Contents}
 use Rattle.recording.specs.WellFormed.{Good, Formed}
 use Rattle.recording.specs.WellFormed.Good.{read, write, crossing}
 use Rattle.byte_rows.specs.Buffer.{put}
-use Rattle.writing.specs.Writing.{Rows, rows_given, number_of, longest, shortest, fitting_in, reach, contents_of, size_of, rows_tests, write_tests, two_bytes, entry_bytes, section_of, file_of, Writes}
-use Rattle.writing.specs.Parts.{label_bytes, event_bytes_of, EntryFits, LabelsFit, EntriesFit}
+use Rattle.writing.specs.declared.Rows.{Rows as Lent}
+use Rattle.writing.specs.Writing.{Rows, rows_lent, number_of, longest, shortest, fitting_in, reach, contents_of, size_of, rows_tests, write_tests, two_bytes, entry_bytes, labels_of, events_of, file_of, Writes}
+use Rattle.writing.specs.Parts.{count_of, event_in, EntryFits, LabelsFit, EntriesFit, EventsFit}
 use Rattle.recording.proofs.WellFormed.{fine_formed}
-use Rattle.writing.proofs.RowTests.{either, fitting_all, between}
+use Rattle.writing.proofs.RowTests.{either, fitting_all}
 use Rattle.byte_rows.proofs.Buffer.{put_put, put_start}
 use Rattle.writing.proofs.Bytes.{length-section}
 
@@ -76,105 +77,102 @@ module _ (r : Rows) where
   unfolding number_of
   fits row l = record { label_fits = λ n k. fitting_all (number_of row) 0 (length row) l n (omega arith) (omega arith) }
 
-  pub whole : rows_tests r ≡ Fine → Whole
+  pub whole : rows_tests r ≡ fine → Whole
   unfolding rows_tests
   whole t =
       let g = fine_formed (reach r) (contents_of r) t in
       let size = g.size in
-      let b = between r.kinds r.workers r.fields in
       let same = events_reached size in
-      let a₁ = b.kinds_long in
-      let a₂ = b.workers_long in
-      let a₃ = b.fields_long in
-      let a₄ = b.kinds_short in
-      let a₅ = b.workers_short in
-      let a₆ = b.fields_short in
       record {
         formed = rw size at g;
         workers_fit = fits r.worker_labels (workers_reached size);
         fields_fit = fits r.field_labels (fields_reached size);
         events_fit =
             record {
-              as_many_workers = omega arith;
-              as_many_fields = omega arith;
+              all_whole = sym same;
               entry_fits = λ n l. good_fits W F _ g.few_workers g.few_fields (g.events_good n (omega arith));
             };
         events_count = omega arith;
       }
 
--- what the functions that put the bytes ask for
-module _ (worker_labels field_labels kinds workers fields : List ℕ) (a : Fault) (p : a ≡ rows_tests (rows_given worker_labels field_labels kinds workers fields)) (k : a ≡ Fine) where
-  ready : Whole (rows_given worker_labels field_labels kinds workers fields)
-  ready = whole (rows_given worker_labels field_labels kinds workers fields) (sym p ∙ k)
-
-  pub workers_few : length worker_labels ≤ 512
-  workers_few = let few = ready.formed.few_workers in omega arith
-
-  pub workers_whole : LabelsFit worker_labels
-  workers_whole = ready.workers_fit
-
-  pub fields_few : length field_labels ≤ 512
-  fields_few = ready.formed.few_fields
-
-  pub fields_whole : LabelsFit field_labels
-  fields_whole = ready.fields_fit
-
-  pub events_few : length kinds ≤ 16000
-  events_few = let few = ready.formed.few_events in let n = ready.events_count in omega arith
-
-  pub events_whole : EntriesFit kinds workers fields
-  events_whole = ready.events_fit
-
 -- the ways out of the writer, whose tests of the rows answer a
-module _ (r : Rows) (lent : List ℕ) (a : Fault) (p : a ≡ rows_tests r) where
-  pub rows_refused : (number place : ℕ) → a ≡ Refused number place → Writes r lent (Written-refused number place) lent
+module _ (l : Lent) (a : Fault) (p : a ≡ rows_tests (rows_lent l)) where
+  abbrev rows : Rows
+  rows = rows_lent l
+
+  pub rows_refused : (lent : List ℕ) (refusal : Refusal) → a ≡ Err refusal → Writes rows lent (Err refusal) lent
   unfolding write_tests ◌then◌
-  rows_refused number place k = record { answers = rw (← p, k); bytes = rw (← p, k) }
+  rows_refused lent refusal k = record { answers = rw (← p, k); bytes = rw (← p, k) }
 
-  module _ (k : a ≡ Fine) where
+  module _ (k : a ≡ fine) where
+    all : Whole rows
+    all = whole rows (sym p ∙ k)
+
+    -- what the functions that put the bytes ask for
+    pub workers_few : length l.worker_labels.now ≤ 512
+    workers_few = let few = all.formed.few_workers in omega arith
+
+    pub workers_fit : LabelsFit l.worker_labels.now
+    workers_fit = all.workers_fit
+
+    pub fields_few : length l.field_labels.now ≤ 512
+    fields_few = all.formed.few_fields
+
+    pub fields_fit : LabelsFit l.field_labels.now
+    fields_fit = all.fields_fit
+
+    pub events_few : count_of l.events ≤ 16000
+    events_few = all.formed.few_events
+
+    pub events_fit : EventsFit l.events
+    events_fit = all.events_fit
+
+    abbrev fields_place : ℕ
+    fields_place = 2 + 2 * length l.worker_labels.now
+
+    abbrev events_place : ℕ
+    events_place = fields_place + 2 + 2 * length l.field_labels.now
+
     abbrev size : ℕ
-    size = 2 + 2 * length r.worker_labels + 2 + 2 * length r.field_labels + 2 + 4 * length r.kinds
+    size = events_place + 2 + 4 * count_of l.events
 
-    all : Whole r
-    all = whole r (sym p ∙ k)
+    size_is : size ≡ size_of (contents_of rows)
+    size_is = omega arith
 
-    size_is : size ≡ size_of (contents_of r)
-    size_is = rw all.events_count (omega arith)
+    module _ (lent : List ℕ) where
+      tests_then : (b : Fault) → need (leb (size_of (contents_of rows)) (length lent)) ShortBuffer 0 ≡ b → write_tests (length lent) rows ≡ b
+      unfolding write_tests ◌then◌
+      tests_then b q = rw (← p, k) q
 
-    tests_then : (b : Fault) → need (leb (size_of (contents_of r)) (length lent)) 12 0 ≡ b → write_tests (length lent) r ≡ b
-    unfolding write_tests ◌then◌
-    tests_then b q = rw (← p, k) q
+      pub buffer_short : length lent < size → Writes rows lent (Err (record { reason = ShortBuffer; place = 0 })) lent
+      unfolding need
+      buffer_short m =
+          let s = size_is in
+          let q = tests_then (refused ShortBuffer 0) (rw (lt-leb (size_of (contents_of rows)) (length lent) (omega arith))) in
+          record { answers = rw q; bytes = rw q }
 
-    pub buffer_short : length lent < size → Writes r lent (Written-refused 12 0) lent
-    unfolding need
-    buffer_short l =
-        let s = size_is in
-        let q = tests_then (Refused 12 0) (rw (lt-leb (size_of (contents_of r)) (length lent) (omega arith))) in
-        record { answers = rw q; bytes = rw q }
-
-    pub file_written : (b₁ b₂ b₃ : List ℕ) → size ≤ length lent
-        → b₁ ≡ put lent 0 (section_of (length r.worker_labels) (label_bytes r.worker_labels))
-        → b₂ ≡ put b₁ (2 + 2 * length r.worker_labels) (section_of (length r.field_labels) (label_bytes r.field_labels))
-        → b₃ ≡ put b₂ (2 + 2 * length r.worker_labels + 2 + 2 * length r.field_labels) (section_of (length r.kinds) (event_bytes_of r.kinds r.workers r.fields))
-        → Writes r lent (Bytes size) b₃
-    unfolding need file_of
-    file_written b₁ b₂ b₃ l q₁ q₂ q₃ =
-        let s = size_is in
-        let c = contents_of r in
-        let fine = tests_then Fine (rw (le-leb (size_of c) (length lent) (omega arith))) in
-        let A = section_of (length r.worker_labels) (label_bytes r.worker_labels) in
-        let B = section_of (length r.field_labels) (label_bytes r.field_labels) in
-        let C = section_of (length r.kinds) (event_bytes_of r.kinds r.workers r.fields) in
-        let a = length-section (label_bytes r.worker_labels) 2 (λ _. refl) (length r.worker_labels) in
-        let b = length-section (label_bytes r.field_labels) 2 (λ _. refl) (length r.field_labels) in
-        let ab = length-append A B in
-        let one : 2 + 2 * length r.worker_labels ≡ 0 + length A = omega arith in
-        let two : 2 + 2 * length r.worker_labels + 2 + 2 * length r.field_labels ≡ 0 + length (A ++ B) = omega arith in
-        let file : A ++ B ++ C ≡ file_of c = rw all.events_count (append_assoc A B C) in
-        let after_two : b₂ ≡ put lent 0 (A ++ B) = rw (one, q₁, put_put lent 0 A (omega arith) B) at q₂ in
-        let done : b₃ ≡ put lent 0 (A ++ B ++ C) = rw (two, after_two, put_put lent 0 (A ++ B) (omega arith) C) at q₃ in
-        record { answers = rw (fine, length-file c) (rw size_is); bytes = rw fine (done ∙ rw (put_start, file)) }
+      pub file_written : (b₁ b₂ b₃ : List ℕ) → size ≤ length lent
+          → b₁ ≡ put lent 0 (labels_of (length l.worker_labels.now) (number_of l.worker_labels.now))
+          → b₂ ≡ put b₁ fields_place (labels_of (length l.field_labels.now) (number_of l.field_labels.now))
+          → b₃ ≡ put b₂ events_place (events_of (count_of l.events) (event_in l.events))
+          → Writes rows lent (Ok size) b₃
+      unfolding need file_of
+      file_written b₁ b₂ b₃ m q₁ q₂ q₃ =
+          let s = size_is in
+          let c = contents_of rows in
+          let passes = tests_then fine (rw (le-leb (size_of c) (length lent) (omega arith))) in
+          let A = labels_of c.workers c.worker_label in
+          let B = labels_of c.fields c.field_label in
+          let C = events_of c.events c.entry in
+          let a = length-section (λ n. two_bytes (c.worker_label n)) 2 (λ _. refl) c.workers in
+          let b = length-section (λ n. two_bytes (c.field_label n)) 2 (λ _. refl) c.fields in
+          let ab = length-append A B in
+          let one : fields_place ≡ 0 + length A = omega arith in
+          let two : events_place ≡ 0 + length (A ++ B) = omega arith in
+          let after_two : b₂ ≡ put lent 0 (A ++ B) = rw (one, q₁, put_put lent 0 A (omega arith) B) at q₂ in
+          let done : b₃ ≡ put lent 0 (A ++ B ++ C) = rw (two, after_two, put_put lent 0 (A ++ B) (omega arith) C) at q₃ in
+          record { answers = rw (passes, length-file c) (rw size_is); bytes = rw passes (done ∙ rw (put_start, append_assoc A B C)) }
 
 -- Any two outcomes that the promise allows are equal, every byte of the buffer included.
-pub one_outcome : (r : Rows) (lent : List ℕ) (a a' : Written) (b b' : List ℕ) → Writes r lent a b → Writes r lent a' b' → (a ≡ a') × (b ≡ b')
+pub one_outcome : (r : Rows) (lent : List ℕ) (a a' : Result ℕ Refusal) (b b' : List ℕ) → Writes r lent a b → Writes r lent a' b' → (a ≡ a') × (b ≡ b')
 one_outcome r lent a a' b b' x y = (x.answers ∙ sym y.answers, x.bytes ∙ sym y.bytes)

@@ -1,12 +1,12 @@
 -- What the writer is given, the file that it makes of it, what it answers and what it leaves in the lent buffer.
-use Rattle.std.specs.Prelude.{◌≡◌, cond, List, [], ◌∷◌, ◌++◌, ℕ, zero, suc, ◌+◌, ◌*◌, ◌/◌, ◌%◌, ltb, leb, length, get_or, drop}
+use Rattle.std.specs.Prelude.{◌≡◌, Result, Ok, Err, cond, List, [], ◌∷◌, ◌++◌, ℕ, zero, suc, ◌+◌, ◌*◌, ◌/◌, ◌%◌, min, max, ltb, leb, length, get_or, drop}
 use Rattle.events.specs.declared.Event.{Event}
 use Rattle.events.specs.declared.Event.TheVariants.{Read, Write, Crossing}
-use Rattle.recording.specs.declared.Fault.{Fault}
-use Rattle.recording.specs.declared.Fault.TheVariants.{Fine, Refused}
+use Rattle.recording.specs.declared.refusal.Refusal.{Refusal}
+use Rattle.recording.specs.declared.refusal.Reason.TheVariants.{ShortBuffer}
+use Rattle.recording.specs.Refusals.{Fault}
 use Rattle.recording.specs.declared.Entry.{Entry}
-use Rattle.writing.specs.declared.Written.{Written}
-use Rattle.writing.specs.declared.Written.TheVariants.{Refused as Written-refused, Bytes}
+use Rattle.writing.specs.declared.Rows.{Rows as Lent}
 use Rattle.recording.specs.Tests.{need, ◌then◌, fields_at, file_size, Contents, file_tests}
 use Rattle.recording.specs.File.{worker_count, field_count, event_count, worker_label, field_label, event_at}
 
@@ -23,6 +23,9 @@ abbrev pub rows_given : List ℕ → List ℕ → List ℕ → List ℕ → List
 rows_given worker_labels field_labels kinds workers fields =
     record { worker_labels = worker_labels; field_labels = field_labels; kinds = kinds; workers = workers; fields = fields }
 
+abbrev pub rows_lent : Lent → Rows
+rows_lent l = rows_given l.worker_labels.now l.field_labels.now l.events.kinds.now l.events.workers.now l.events.fields.now
+
 -- number n of a row
 unfoldable pub number_of : List ℕ → ℕ → ℕ
 number_of row n = get_or row n 0
@@ -32,17 +35,11 @@ unfoldable pub entry_of : List ℕ → List ℕ → List ℕ → ℕ → Entry
 entry_of kinds workers fields n = record { kind = number_of kinds n; worker = number_of workers n; field = number_of fields n }
 
 -- There are as many events as the longest of their rows has numbers; as many as the shortest has are whole.
-unfoldable pub larger : ℕ → ℕ → ℕ
-larger a b = cond (ltb a b) b a
-
-unfoldable pub smaller : ℕ → ℕ → ℕ
-smaller a b = cond (ltb a b) a b
-
 abbrev pub longest : List ℕ → List ℕ → List ℕ → ℕ
-longest kinds workers fields = larger (length kinds) (larger (length workers) (length fields))
+longest kinds workers fields = max (length kinds) (max (length workers) (length fields))
 
 abbrev pub shortest : List ℕ → List ℕ → List ℕ → ℕ
-shortest kinds workers fields = smaller (length kinds) (smaller (length workers) (length fields))
+shortest kinds workers fields = min (length kinds) (min (length workers) (length fields))
 
 -- what the file is to hold
 abbrev pub contents_of : Rows → Contents
@@ -83,7 +80,7 @@ abbrev pub size_of : Contents → ℕ
 size_of c = file_size c.workers c.fields c.events
 
 unfoldable pub write_tests : ℕ → Rows → Fault
-write_tests room r = rows_tests r then need (leb (size_of (contents_of r)) room) 12 0
+write_tests room r = rows_tests r then need (leb (size_of (contents_of r)) room) ShortBuffer 0
 
 -- All two-byte numbers have the low byte first.
 abbrev pub two_bytes : ℕ → List ℕ
@@ -113,25 +110,25 @@ events_of count entry = section_of count (λ n. entry_bytes (entry n))
 unfoldable pub file_of : Contents → List ℕ
 file_of c = labels_of c.workers c.worker_label ++ (labels_of c.fields c.field_label ++ events_of c.events c.entry)
 
--- What the writer answers: the number and place of a refusal, or how many bytes it has written.
-abbrev pub wrote : Fault → List ℕ → Written
-wrote (Refused number place) file = Written-refused number place
-wrote Fine file = Bytes (length file)
+-- What the writer answers: the refusal, or how many bytes it has written.
+abbrev pub wrote : Fault → List ℕ → Result ℕ Refusal
+wrote (Err refusal) file = Err refusal
+wrote (Ok done) file = Ok (length file)
 
 -- A refusal changes no byte. A buffer longer than needed keeps its tail.
 abbrev pub left : Fault → List ℕ → List ℕ → List ℕ
-left (Refused number place) file lent = lent
-left Fine file lent = file ++ drop (length file) lent
+left (Err refusal) file lent = lent
+left (Ok done) file lent = file ++ drop (length file) lent
 
 -- what the writer answers to these rows, and leaves in the buffer that was lent as lent
-abbrev pub writer_says : Rows → List ℕ → Written
+abbrev pub writer_says : Rows → List ℕ → Result ℕ Refusal
 writer_says r lent = wrote (write_tests (length lent) r) (file_of (contents_of r))
 
 abbrev pub writer_leaves : Rows → List ℕ → List ℕ
 writer_leaves r lent = left (write_tests (length lent) r) (file_of (contents_of r)) lent
 
 -- What the writer promises: this answer, and this buffer at exit.
-pub record Writes (r : Rows) (lent : List ℕ) (answer : Written) (buffer : List ℕ) : Type 0 where
+pub record Writes (r : Rows) (lent : List ℕ) (answer : Result ℕ Refusal) (buffer : List ℕ) : Type 0 where
   pub answers : answer ≡ writer_says r lent
   pub bytes : buffer ≡ writer_leaves r lent
 

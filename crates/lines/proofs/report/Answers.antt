@@ -1,4 +1,4 @@
--- `report` puts the three lines.
+-- The lines stand at the start of the buffer.
 use Rattle.lines.proofs.Lines.{report_put}
 use Rattle.std.proofs.Common.{rules}
 use Rattle.lines.proofs.report.Goals as goal

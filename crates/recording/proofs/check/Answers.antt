@@ -3,17 +3,17 @@ use Rattle.recording.proofs.Answers.{section_few, workers_room, workers_refused,
 use Rattle.std.proofs.Common.{rules}
 use Rattle.recording.proofs.check.Goals as goal
 
-pub label_section-requires-in-Count : goal.label_section-requires-in-Count
-label_section-requires-in-Count c = search (rules, workers_room)
+pub returns-in_err-workers : goal.returns-in_err-workers
+returns-in_err-workers c = search (rules, workers_refused)
+
+pub label_section-requires-2 : goal.label_section-requires-2
+label_section-requires-2 c = search (rules, workers_room)
+
+pub returns-in_err-fields : goal.returns-in_err-fields
+returns-in_err-fields c = search (rules, fields_refused c.args.file.now c.label_section.result c.label_section.ensures c.in_ok-workers.workers c.in_ok-workers.was)
 
 pub check_events-requires : goal.check_events-requires
 check_events-requires c = search (rules, section_few, fields_room)
 
-pub returns-in-Refused : goal.returns-in-Refused
-returns-in-Refused c = search (rules, workers_refused)
-
-pub returns-in-Refused-label_section : goal.returns-in-Refused-label_section
-returns-in-Refused-label_section c = search (rules, fields_refused)
-
-pub returns-in-Count-label_section : goal.returns-in-Count-label_section
-returns-in-Count-label_section c = search (rules, events_answer_lem)
+pub returns : goal.returns
+returns c = search (rules, events_answer_lem c.args.file.now c.label_section.result c.label_section.ensures c.in_ok-workers.workers c.in_ok-workers.was)

@@ -1,13 +1,16 @@
 -- `event_of` tells the event by its kind.
-use Rattle.recording.proofs.Answers.{is_read, is_write, is_crossing}
+use Rattle.recording.proofs.Answers.{is_read, is_write, is_crossing, is_no_kind}
 use Rattle.std.proofs.Common.{rules}
 use Rattle.recording.proofs.event_of.Goals as goal
 
-pub returns-then-e-eq1 : goal.returns-then-e-eq1
-returns-then-e-eq1 c = search (rules, is_read)
+pub returns-in-Ok-Read : goal.returns-in-Ok-Read
+returns-in-Ok-Read c = search (rules, is_read, is_write, is_crossing, is_no_kind)
 
-pub returns-then-e-eq2 : goal.returns-then-e-eq2
-returns-then-e-eq2 c = search (rules, is_write)
+pub returns-in-Ok-Write : goal.returns-in-Ok-Write
+returns-in-Ok-Write c = search (rules, is_read, is_write, is_crossing, is_no_kind)
 
-pub returns : goal.returns
-returns c = search (rules, is_crossing)
+pub returns-in_default : goal.returns-in_default
+returns-in_default c = search (rules, is_read, is_write, is_crossing, is_no_kind)
+
+pub returns-in_default-2 : goal.returns-in_default-2
+returns-in_default-2 c = search (rules, is_read, is_write, is_crossing, is_no_kind)

@@ -1,11 +1,11 @@
--- `fill` goes over the text once: what the words so far have given stands in the row.
-use mathlib.Core.Path.{◌≡◌}
-use Prim.Native.Nat.{◌+◌, ◌≤◌}
-use lib.ListN.{length, take}
+-- `fill` goes over the words once: what those so far have given stands in the row.
+use Rattle.std.proofs.Common.{ℕ, length, take}
+use Rattle.std.specs.Prelude.{Option}
+use Rattle.spelling.specs.declared.word.Word.{Word}
 use Rattle.spelling.specs.Notation.{words, values_in}
-use Rattle.spelling.proofs.Passing.{values_from}
+use Rattle.spelling.specs.Passes.{left_from, Gives}
 use Rattle.spelling.proofs.Filling.{Held}
 use Rattle.spelling.proofs.fill.Given as goal
 
-abbrev pub invariant-loop-i : goal.invariant-loop-i
-invariant-loop-i l = (l.ends ≡ length l.text + 1) × (length l.text ≤ 262144) × Held (take (length l.initial.row) (values_in l.part (words l.text))) (values_from l.part l.text l.heading l.start l.i) l.initial.row l.row l.n
+abbrev pub invariant-loop-placed : goal.invariant-loop-placed
+invariant-loop-placed g l = (given : Word → Option ℕ) → Gives (goal.F-post g l.value) given → Held (take (length l.initial.row) (values_in given (words l.text))) (values_in given (left_from l.placed-iterator.text.now l.placed-iterator.heading l.placed-iterator.at)) l.initial.row l.row l.n

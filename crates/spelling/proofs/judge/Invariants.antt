@@ -1,10 +1,8 @@
--- `judge` goes over the text once, up to the first bad word.
-use mathlib.Core.Path.{◌≡◌}
-use Prim.Native.Nat.{◌+◌, ◌≤◌}
-use lib.ListN.{length}
-use Rattle.spelling.specs.Notation.{judged}
-use Rattle.spelling.proofs.Passing.{bad_from}
+-- `judge` goes over the words up to the first bad one: the first bad one of those that are left is the text's.
+use Rattle.std.proofs.Common.{◌≡◌}
+use Rattle.spelling.specs.Notation.{first_bad, judged}
+use Rattle.spelling.specs.Passes.{left_from}
 use Rattle.spelling.proofs.judge.Given as goal
 
-abbrev pub invariant-loop-i : goal.invariant-loop-i
-invariant-loop-i l = (l.ends ≡ length l.text + 1) × (length l.text ≤ 262144) × (bad_from l.text l.heading l.start l.i ≡ judged l.text)
+abbrev pub invariant-loop-placed : goal.invariant-loop-placed
+invariant-loop-placed l = first_bad (left_from l.placed-iterator.text.now l.placed-iterator.heading l.placed-iterator.at) ≡ judged l.text

@@ -1,25 +1,14 @@
--- `read` judges the text, and fills the rows of a good one.
-use Rattle.spelling.proofs.Filling.{judged_short, read_bad, read_fine}
+-- `read` fills each row of a good text with what the words give to it.
+use Rattle.spelling.specs.Notation.{worker_label_in, field_label_in, kind_in, worker_in, field_in}
+use Rattle.spelling.proofs.Filling.{read_fine}
 use Rattle.std.proofs.Common.{rules}
 use Rattle.spelling.proofs.read.Goals as goal
 
-pub fill-worker_count-requires : goal.fill-worker_count-requires
-fill-worker_count-requires c = search (rules, judged_short)
-
-pub fill-field_count-requires : goal.fill-field_count-requires
-fill-field_count-requires c = search (rules, judged_short)
-
-pub fill-event_count-requires : goal.fill-event_count-requires
-fill-event_count-requires c = search (rules, judged_short)
-
-pub fill-requires : goal.fill-requires
-fill-requires c = search (rules, judged_short)
-
-pub fill-requires-in-Fine : goal.fill-requires-in-Fine
-fill-requires-in-Fine c = search (rules, judged_short)
-
-pub returns-in-BadAt : goal.returns-in-BadAt
-returns-in-BadAt c = search (rules, read_bad)
-
-pub returns-in-Fine : goal.returns-in-Fine
-returns-in-Fine c = search (rules, read_fine)
+pub returns : goal.returns
+returns c =
+    read_fine _ _ c.judge.ensures _ _ _ _ _ _ _ _ _ _ _ _ _ _ _ _ c.in_ok-judge.was (search rules) (search rules) (search rules) (search rules) (search rules)
+    (c.fill-worker_count.ensures worker_label_in (record { each = λ word x q. search rules }))
+    (c.fill-field_count.ensures field_label_in (record { each = λ word x q. search rules }))
+    (c.fill-event_count.ensures kind_in (record { each = λ word x q. search rules }))
+    (c.fill.ensures worker_in (record { each = λ word x q. search rules }))
+    (c.fill-2.ensures field_in (record { each = λ word x q. search rules }))

@@ -1,7 +1,7 @@
--- `stream::rows::tell_file` asks for rows only where the check has accepted the file.
+-- `tell_file` reads the rows back only where the check has accepted the file.
 use Rattle.std.proofs.Common.{rules}
 use Rattle.recording.proofs.Acceptance.{fine_accepted}
 use Rattle.stream.proofs.rows.tell_file.Goals as goal
 
-pub tell_accepted-requires : goal.tell_accepted-requires
-tell_accepted-requires g c = search (rules, fine_accepted)
+pub read-back-requires : goal.read-back-requires
+read-back-requires g c = search (rules, fine_accepted)

@@ -4,4 +4,4 @@ use Rattle.std.proofs.Common.{rules}
 use Rattle.writing.proofs.put.events.Goals as goal
 
 pub returns : goal.returns
-returns c = search (rules, section_put)
+returns c = let count = rw c.count.ensures at c.number.ensures in search (rules, section_put)

@@ -1,7 +1,0 @@
--- `early::clear` meets its contract: a 1 for each worker, and 0 elsewhere.
-use Rattle.early.proofs.Shown.{shows_start}
-use Rattle.std.proofs.Common.{rules}
-use Rattle.early.proofs.clear.Goals as goal
-
-pub returns : goal.returns
-returns c = search (rules, shows_start)

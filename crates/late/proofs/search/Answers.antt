@@ -1,7 +1,0 @@
--- `late::search` meets its contract: what the cleared tables show, and what they show in the end.
-use Rattle.late.proofs.Answers.{accepted_few}
-use Rattle.std.proofs.Common.{rules}
-use Rattle.late.proofs.search.Goals as goal
-
-pub clear-requires : goal.clear-requires
-clear-requires c = search (rules, accepted_few)

@@ -1,2 +1,0 @@
--- Laws of the rows.
-pub mod Rows

@@ -1,0 +1,8 @@
+-- `label_section` answers as a section of labels does, in a file that goes as far as its labels fit.
+use Rattle.writing.specs.Parts.{row_answer}
+use Rattle.std.proofs.Common.{rules}
+use Rattle.writing.proofs.checks.label_section.Goals as goal
+
+pub returns : goal.returns
+unfolding row_answer
+returns c = search rules
