@@ -16,7 +16,7 @@ use Rattle.std.specs.Prelude.{Result, Ok, Err, Option, Some, None}
 use Rattle.recording.specs.declared.event.Kind.{Kind}
 use Rattle.recording.specs.declared.event.Kind.TheVariants.{Read, Write, Crossing}
 use Rattle.recording.specs.declared.refusal.Reason.{Reason}
-use Rattle.recording.specs.declared.refusal.Reason.TheVariants.{CutShort, WorkerCount, WorkerOrder, FieldCount, FieldOrder, EventCount, Kind as Of-kind, Worker, Field, ExtraBytes}
+use Rattle.recording.specs.declared.refusal.Reason.TheVariants.{CutShort, WorkerCount, WorkerOrder, FieldCount, FieldOrder, EventCount, Kind as BadKind, Worker as BadWorker, Field as BadField, ExtraBytes}
 use Rattle.recording.specs.declared.refusal.Refusal.{Refusal}
 use Rattle.recording.specs.Refusals.{Fault, fine, refused}
 use Rattle.recording.specs.declared.Entry.{Entry}
@@ -89,17 +89,17 @@ not-false false e = let z : ◌≡◌ {A = ℕ} 0 1 = cc in absurd (omega arith)
 
 -- an event, test by test
 module _ (W F : ℕ) (e : Entry) where
-  pub kind_refused : kind_allowed e.kind ≡ false → refused Of-kind 0 ≡ event_tests W F e 0
+  pub kind_refused : kind_allowed e.kind ≡ false → refused BadKind 0 ≡ event_tests W F e 0
   unfolding event_tests event_place ◌then◌ need
   kind_refused q = rw q
 
   module _ (kind : Kind) (q : kind_number kind ≡ e.kind) where
-    pub worker_refused : W ≤ e.worker → refused Worker 1 ≡ event_tests W F e 0
+    pub worker_refused : W ≤ e.worker → refused BadWorker 1 ≡ event_tests W F e 0
     unfolding event_tests event_place ◌then◌ need
     worker_refused l = rw (kind_is kind e.kind q, le-ltb e.worker W l)
 
     module _ (l : e.worker < W) (f : Bool) (p : f ≡ field_allowed F (kind_number kind) e.field) where
-      pub field_refused : not f ≡ true → refused Field 2 ≡ event_tests W F e 0
+      pub field_refused : not f ≡ true → refused BadField 2 ≡ event_tests W F e 0
       unfolding event_tests event_place ◌then◌ need
       field_refused b = rw (kind_is kind e.kind q, lt-ltb e.worker W l, ← q, ← p, not-true f b)
 

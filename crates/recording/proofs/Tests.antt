@@ -7,7 +7,7 @@ use lib.Dec.{ltb, leb}
 use borrow.Author.Tests.{leb-true, le-leb, ltb-true, ltb-false, lt-ltb}
 use Rattle.recording.specs.declared.refusal.Reason.{Reason}
 use Rattle.recording.specs.declared.refusal.Refusal.{Refusal}
-use Rattle.recording.specs.declared.refusal.Reason.TheVariants.{Kind as Of-kind, Worker, Field}
+use Rattle.recording.specs.declared.refusal.Reason.TheVariants.{Kind as BadKind, Worker as BadWorker, Field as BadField}
 use Rattle.recording.specs.Refusals.{Fault, fine, refused}
 use Rattle.std.specs.Prelude.{Ok, Err}
 use Rattle.recording.specs.declared.Entry.{Entry}
@@ -144,7 +144,7 @@ further start (Err r) = refused r.reason (start + r.place)
 
 -- an event's tests, by what each of them finds
 abbrev found : Bool → Bool → Bool → ℕ → Fault
-found kind worker field start = need kind Of-kind (event_place Of-kind start) then need worker Worker (event_place Worker start) then need field Field (event_place Field start)
+found kind worker field start = need kind BadKind (event_place BadKind start) then need worker BadWorker (event_place BadWorker start) then need field BadField (event_place BadField start)
 
 -- they answer at any place what they answer at 0, so many bytes further on, and their place is one of the event's bytes
 module _ (W F : ℕ) (e : Entry) where

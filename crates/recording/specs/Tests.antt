@@ -4,7 +4,7 @@ use Rattle.recording.specs.declared.event.Kind.{Kind}
 use Rattle.recording.specs.declared.event.Kind.TheVariants.{Read, Write, Crossing}
 use Rattle.recording.specs.declared.event.UnknownKind.{UnknownKind}
 use Rattle.recording.specs.declared.refusal.Reason.{Reason}
-use Rattle.recording.specs.declared.refusal.Reason.TheVariants.{CutShort, WorkerCount, WorkerOrder, FieldCount, FieldOrder, EventCount, Kind as Of-kind, Worker, Field, ExtraBytes, ShortTable}
+use Rattle.recording.specs.declared.refusal.Reason.TheVariants.{CutShort, WorkerCount, WorkerOrder, FieldCount, FieldOrder, EventCount, Kind as BadKind, Worker as BadWorker, Field as BadField, ExtraBytes, ShortTable}
 use Rattle.recording.specs.Refusals.{Fault, fine, refused, number_of}
 use Rattle.recording.specs.declared.Entry.{Entry}
 
@@ -64,9 +64,9 @@ event_place reason start = cond (eqb (number_of reason) 8) (start + 1) (cond (eq
 -- Within an event: kind (7), worker (8), field (9).
 unfoldable pub event_tests : ℕ → ℕ → Entry → ℕ → Fault
 event_tests W F e start =
-    need (kind_allowed e.kind) Of-kind (event_place Of-kind start)
-    then need (ltb e.worker W) Worker (event_place Worker start)
-    then need (field_allowed F e.kind e.field) Field (event_place Field start)
+    need (kind_allowed e.kind) BadKind (event_place BadKind start)
+    then need (ltb e.worker W) BadWorker (event_place BadWorker start)
+    then need (field_allowed F e.kind e.field) BadField (event_place BadField start)
 
 -- Event n and the events after it, k in all, of those that start at place at: the first bad event answers.
 unfoldable pub events_tests : ℕ → ℕ → (ℕ → Entry) → ℕ → ℕ → ℕ → Fault
