@@ -20,7 +20,7 @@ use Rattle.recording.proofs.Guarantee.{Guarantee, guarantee}
 use Rattle.flags.specs.Flags.{flags_from}
 use Rattle.tables.specs.declared.Report.{Report}
 use Rattle.tables.specs.Lent.{cells}
-use Rattle.tables.specs.Answers.{sort_number, report_of}
+use Rattle.tables.specs.Answers.{report_of}
 use Rattle.tables.specs.Finds.{acts_in}
 use Rattle.tables.proofs.Lent.{shown_length}
 use Rattle.tables.proofs.Files.{deed_at, file_sound_full, file_numbers, file_worker, file_does, file_stretch}
@@ -119,8 +119,8 @@ module _ (file : List ℕ) (counts : Counts) (t₀ : Tables) (ready : Ready file
 
           pub run_stop : (r : Report) → v ≡ report_of r → Ran file counts v t₀ t₁
           run_stop r o = record {
-            answer = o ∙ sym (reached_stop course n run.so_far l r.event (sort_number r.sort) r.worker.0 r.other.0 r.field.0 (sym says ∙ o));
-            shows = rw (history_stop course n run.so_far l v r.event (sort_number r.sort) r.worker.0 r.other.0 r.field.0 says o)
+            answer = o ∙ sym (reached_stop course n run.so_far l r.event r.sort r.worker.0 r.other.0 r.field.0 (sym says ∙ o));
+            shows = rw (history_stop course n run.so_far l v r.event r.sort r.worker.0 r.other.0 r.field.0 says o)
                 (record {
                   lent = lent_still t₀ t t₁ run.shows.lent step.lent;
                   stretch = rw (rw o at step.stretch) run.shows.stretch;

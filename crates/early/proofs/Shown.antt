@@ -43,7 +43,7 @@ shows_start S₁ t₀ t lent few sized a b c d = record {
 }
 
 -- the words alone
-record Words (W : ℕ) (h : History) (S₀ Wr₀ Rd₀ S Wr Rd : List ℕ) : Type 0 where
+pub record Words (W : ℕ) (h : History) (S₀ Wr₀ Rd₀ S Wr Rd : List ℕ) : Type 0 where
   pub stretch : Shown 16 (stretch_word W h) S₀ S
   pub writer : Shown 512 (writer_word h) Wr₀ Wr
   pub readers : Shown 8192 (cells (readers_word h)) Rd₀ Rd
@@ -72,7 +72,7 @@ module _ (W : ℕ) (few : W ≤ 16) (S₀ Wr₀ Rd₀ : List ℕ) where
           rw (writer_shown W few h S₀ S shows.stretch inside Wr₀ Wr shows.writer calm w f i.1, reader_shown w f i.1)
       act_shown (crosses w) i = refl
 
-      words_meet : (e : List Act) → ActsWithin W 512 e
+      pub words_meet : (e : List Act) → ActsWithin W 512 e
           → first_of (early_by (writer_by W S Wr) (reader_by W S Rd) n) e ≡ first_of (early_look h n) e
       words_meet = first_ext (early_by (writer_by W S Wr) (reader_by W S Rd) n) (early_look h n) W 512 act_shown
 

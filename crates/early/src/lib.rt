@@ -1,8 +1,7 @@
 // The early finder (FastRCD): at each access it looks whether another worker's open stretch has touched the field.
 #![tactic(auto)]
 
-ghost use Rattle.std.specs.Prelude.{◌≡◌, ◌+◌, ◌*◌, ◌<◌, ◌≤◌, min, [], length, get_or, set};
-ghost use Rattle.sorts.specs.Words.{joined};
+ghost use Rattle.std.specs.Prelude.{◌≡◌, ◌+◌, ◌*◌, ◌<◌, ◌≤◌, min, [], length};
 ghost use Rattle.events.specs.Acts.{DeedWithin};
 ghost use Rattle.recording.specs.File.{Accepted};
 ghost use Rattle.tables.specs.Answers.{found_of, verdict_of, said_by};
@@ -49,7 +48,7 @@ impl Tables<'_> {
             .map(Worker)
     }
 
-    // The last writer of field f, if it is another worker than w and its stretch is open. This and the next hand their own tables on.
+    // The last writer of field f, if it is another worker than w and its stretch is open. It hands its own tables on.
     fn other_writer(&self, w: Worker, f: Field) -> Option<Worker>
         requires { (f.0 < 512) × Sized self.now }
         ensures { found_of result ≡ writer_by self.now.workers self.now.stretch.now self.now.writer.now w.0 f.0 }
@@ -73,14 +72,6 @@ impl Tables<'_> {
         }
     }
 
-    // The writer word of worker w's open stretch.
-    fn word_of(&self, w: Worker) -> u32
-        requires { (w.0 < 16) × Sized self.now × (get_or self.now.stretch.now w.0 0 < 268435456) }
-        ensures { result ≡ joined (get_or self.now.stretch.now w.0 0) w.0 }
-    {
-        tables::writer_word(self.stretch, w)
-    }
-
     // What an event does that clashes with nothing.
     #[tactic(auto, unfolding(tables::specs::Steps::stretch_with, tables::specs::Steps::writer_with, crate::specs::Steps::readers_with, tables::specs::Steps::stretch_after, tables::specs::Steps::writer_after, crate::specs::Steps::readers_after))]
     fn enter(&mut self, d: Deed)
@@ -89,7 +80,12 @@ impl Tables<'_> {
     {
         match d {
             Deed::Reads(w, f) => self.readers[tables::place(w, f)] = self.stretch[w.0 as usize],
-            Deed::Writes(w, f) => self.writer[f.0 as usize] = self.word_of(w),
+            Deed::Writes(w, f) => {
+                // Both tables stand in one struct, so each is borrowed by itself.
+                let stretch = &mut *self.stretch;
+                let writer = &mut *self.writer;
+                tables::enter_write(stretch, writer, w, f);
+            }
             Deed::Crosses(w) => tables::close_stretch(self.stretch, w, 1),
             Deed::Signals(w) => tables::close_stretch(self.stretch, w, 2),
         }

@@ -22,7 +22,7 @@ use Rattle.flags.specs.Flags.{first_flag}
 use Rattle.flags.proofs.Flags.{plain_in_file, accepted_first_flag}
 use Rattle.tables.specs.declared.Report.{Report}
 use Rattle.tables.specs.Lent.{cells}
-use Rattle.tables.specs.Answers.{report_of, sort_number}
+use Rattle.tables.specs.Answers.{report_of}
 use Rattle.tables.specs.Finds.{acts_in, late_of, shown_by}
 use Rattle.tables.proofs.Lent.{shown_length}
 use Rattle.tables.proofs.Files.{deed_at, file_sound, file_deed, file_does}
@@ -168,11 +168,11 @@ module _ (file : List ℕ) (counts : Counts) (t₀ : Tables) (ready : Ready file
             answer = q ∙ sym (reached_stop course n run.so_far l m a w u f (sym says ∙ q)) ∙ whole;
             shows =
                 rw (history_stop course n run.so_far l v m a w u f says q)
-                (step_stopped t₀ t few fit now inside run.shows run.so_far.calm n event event_inside v t' stepped m a w u f q);
+                (step_stopped t₀ t few fit now inside run.shows n event v t' stepped m a w u f q);
           }
 
         pub run_stop : (v : papers.Verdict) (r : Report) (t' : Tables) → v ≡ report_of r → Stepped n (acts_of d) (report_of r) t t' → Ran file v t₀ t'
-        run_stop v r t' q step = rw q (reported_stop (report_of r) t' step r.event (sort_number r.sort) r.worker.0 r.other.0 r.field.0 refl)
+        run_stop v r t' q step = rw q (reported_stop (report_of r) t' step r.event r.sort r.worker.0 r.other.0 r.field.0 refl)
 
         pub run_next : (t' : Tables) → Stepped n (acts_of d) accepted t t' → Running file counts t₀ t' (n + 1)
         run_next t' step =

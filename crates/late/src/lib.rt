@@ -135,7 +135,10 @@ impl Tables<'_> {
         let i = f.0 as usize;
         let again = self.wrote_by(w, f);
         self.version[i] = counted(Version(self.version[i]), again);
-        self.writer[i] = self.word_of(w);
+        // Both tables stand in one struct, so each is borrowed by itself.
+        let stretch = &mut *self.stretch;
+        let writer = &mut *self.writer;
+        tables::enter_write(stretch, writer, w, f);
     }
 
     // Worker w's stretch closes: its number rises, and its log words become 0.

@@ -9,12 +9,10 @@ use lib.ListN.{length}
 use Rattle.recording.specs.declared.Counts.{Counts}
 use Rattle.recording.specs.File.{worker_label, field_label}
 use Rattle.std.specs.Prelude.{Result, Ok, Err}
-use Rattle.recording.specs.declared.refusal.Refusal.{Refusal}
-use Rattle.recording.specs.Refusals.{number_of}
 use Rattle.tables.specs.declared.Report.{Report}
 use Rattle.tables.specs.declared.Objection.{Objection}
 use Rattle.tables.specs.declared.Objection.TheVariants.{Refused, Reported}
-use Rattle.tables.specs.Answers.{sort_number, report_of, said_by}
+use Rattle.tables.specs.Answers.{report_of, said_by}
 use Rattle.byte_rows.specs.Characters.{ascii}
 use Rattle.lines.specs.Text.{decimal, rest, line, Puts, Starts}
 use Rattle.lines.specs.Lines.{trace_line, refused_line, other_label, verdict_line, answer_line, report_lines}
@@ -61,18 +59,17 @@ module _ (file name lent : List ℕ) (at : ℕ) (o₁ : List ℕ) (n₁ : ℕ) (
   unfolding verdict_line line rest
   ok_put answer q word end = rw q (looser 111 (omega arith) (then_puts 4 word (omega arith) (λ _. end)))
 
-  pub reported_put : (r : Report) (s : ℕ) → s ≡ sort_number r.sort → (o₃ : List ℕ) (n₃ : ℕ) (o₄ : List ℕ) (n₄ : ℕ)
-      → Puts (length name) name lent at o₁ n₁ → Puts 21 (ascii " " ++ decimal r.event) o₁ n₁ o₂ n₂ → Puts 21 (ascii " " ++ decimal s) o₂ n₂ o₃ n₃
+  pub reported_put : (r : Report) (o₃ : List ℕ) (n₃ : ℕ) (o₄ : List ℕ) (n₄ : ℕ)
+      → Puts (length name) name lent at o₁ n₁ → Puts 21 (ascii " " ++ decimal r.event) o₁ n₁ o₂ n₂ → Puts 21 (ascii " " ++ decimal r.sort) o₂ n₂ o₃ n₃
       → Puts 64 (rest (decimal (worker_label file r.worker.0) ∷ other_label file r.other.0 ∷ decimal (field_label file r.field.0) ∷ [])) o₃ n₃ o₄ n₄
       → Puts 111 (verdict_line file name (report_of r)) lent at o₄ n₄
   unfolding verdict_line line rest
-  reported_put r s q o₃ n₃ o₄ n₄ word a b labels =
-      rw (← q) (then_puts 106 (looser 5 small word) room (λ r. then_puts 85 a r (λ r. then_puts 64 b r (λ _. labels))))
+  reported_put r o₃ n₃ o₄ n₄ word a b labels = then_puts 106 (looser 5 small word) room (λ r. then_puts 85 a r (λ r. then_puts 64 b r (λ _. labels)))
 
-  pub refused_answer : (answer : Result (Unit {0}) Objection) (r : Refusal) (number : ℕ) → answer ≡ Err (Refused r) → number ≡ number_of r.reason
-      → Puts 50 (refused_line number r.place) lent at o₁ n₁
+  pub refused_answer : (answer : Result (Unit {0}) Objection) (number place : ℕ) → answer ≡ Err (Refused number place)
+      → Puts 50 (refused_line number place) lent at o₁ n₁
       → Puts 111 (answer_line file name (said_by answer)) lent at o₁ n₁
-  refused_answer answer r number q e p = rw (q, ← e) (looser 111 (omega arith) p)
+  refused_answer answer number place q p = rw q (looser 111 (omega arith) p)
 
   pub reported_answer : (answer : Result (Unit {0}) Objection) (r : Report) → answer ≡ Err (Reported r)
       → Puts 111 (verdict_line file name (report_of r)) lent at o₁ n₁

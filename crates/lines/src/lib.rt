@@ -94,7 +94,7 @@ impl Page<'_> {
     {
         self.put(name);
         self.number(r.event as u64);
-        self.number(r.sort.number() as u64);
+        self.number(r.sort as u64);
         self.labels(file, r.worker, r.other, r.field);
     }
 
@@ -108,7 +108,7 @@ impl Page<'_> {
                 self.put(name);
                 self.put(b" ok\n");
             }
-            Err(Objection::Refused(r)) => self.refused_line(r.reason.number(), r.place),
+            Err(Objection::Refused(no, place)) => self.refused_line(no, place),
             Err(Objection::Reported(r)) => self.reported_line(file, name, r),
         }
     }

@@ -34,11 +34,11 @@ module _ (file S₀ Wr₀ Vr₀ Lg₀ : List ℕ) where
     pub finds : late.Finds file S₀ Wr₀ Vr₀ Lg₀ late_said S Wr Vr Lg
 
 -- 0 and the refusal's number and place; 1 and how many bytes were written; zeros fill the row
-abbrev pub refused_row : Refusal → List ℕ
-refused_row r = 0 ∷ number_of r.reason ∷ r.place ∷ 0 ∷ 0 ∷ 0 ∷ []
+abbrev pub refused_row : ℕ → ℕ → List ℕ
+refused_row number place = 0 ∷ number ∷ place ∷ 0 ∷ 0 ∷ 0 ∷ []
 
 abbrev pub written_row : Result ℕ Refusal → List ℕ
-written_row (Err r) = refused_row r
+written_row (Err r) = refused_row (number_of r.reason) r.place
 written_row (Ok n) = 1 ∷ n ∷ 0 ∷ 0 ∷ 0 ∷ 0 ∷ []
 
 -- the row and the buffer are those of the writer's answer

@@ -21,22 +21,22 @@ const REPORTED: u64 = 2;
 // The writer's: how many bytes.
 const WRITTEN: u64 = 1;
 
-fn refused_row(r: Refusal) -> [u64; 6]
-    ensures { result ≡ refused_row r }
+fn refused_row(number: u32, place: usize) -> [u64; 6]
+    ensures { result ≡ refused_row number place }
 {
-    [REFUSED, r.reason.number() as u64, r.place as u64, 0, 0, 0]
+    [REFUSED, number as u64, place as u64, 0, 0, 0]
 }
 
 fn row_of(answer: Answer) -> [u64; 6]
     ensures { result ≡ row_of (said_by answer) }
 {
     match answer {
-        Err(Objection::Refused(r)) => refused_row(r),
+        Err(Objection::Refused(number, place)) => refused_row(number, place),
         Ok(()) => [ACCEPTED, 0, 0, 0, 0, 0],
         Err(Objection::Reported(r)) => [
             REPORTED,
             r.event as u64,
-            r.sort.number() as u64,
+            r.sort as u64,
             r.worker.0 as u64,
             r.other.0 as u64,
             r.field.0 as u64,
@@ -73,7 +73,7 @@ fn written_row(answer: Result<usize, Refusal>) -> [u64; 6]
     ensures { result ≡ written_row answer }
 {
     match answer {
-        Err(r) => refused_row(r),
+        Err(r) => refused_row(r.reason.number(), r.place),
         Ok(n) => [WRITTEN, n as u64, 0, 0, 0, 0],
     }
 }

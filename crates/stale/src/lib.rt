@@ -85,7 +85,7 @@ fn said_of(n: u32, stale: Option<(Worker, Field)>) -> Verdict
         None => Ok(()),
         Some((worker, field)) => Err(Report {
             event: n,
-            sort: Sort::WriteAfterRead,
+            sort: Sort::WriteAfterRead.number(),
             worker,
             other: Worker::NOT_RECORDED,
             field,

@@ -8,23 +8,16 @@ use tables::{Answer, Objection};
 // The longest table has 8,300 words.
 type Table = Lent<u32, 8_300>;
 
-// Tables of these lengths, where word i of each is 1 + (noise + i) % 40.
-fn noisy<const N: usize>(lengths: [u32; N], noise: u32) -> [Table; N] {
-    lengths.map(|len| Table::made(len, |i| 1 + (noise % 40 + i % 40) % 40))
+// A table of this length, whose word i is 1 + (noise + i) % 40.
+fn make_noisy(table: &mut Table, len: u32, noise: u32) {
+    table.fill(len, |i| 1 + (noise % 40 + i % 40) % 40);
 }
 
 // The six numbers that begin each half of a response; the protocol has 0, 1 and 2 for refused, accepted and reported.
 fn numbers_of(answer: Answer) -> [u32; 6] {
     match answer {
-        Err(Objection::Refused(r)) => [0, r.reason.number(), low(r.place), 0, 0, 0],
-        Err(Objection::Reported(r)) => [
-            2,
-            r.event,
-            r.sort.number(),
-            r.worker.0,
-            r.other.0,
-            r.field.0,
-        ],
+        Err(Objection::Refused(number, place)) => [0, number, low(place), 0, 0, 0],
+        Err(Objection::Reported(r)) => [2, r.event, r.sort, r.worker.0, r.other.0, r.field.0],
         Ok(()) => [1, 0, 0, 0, 0, 0],
     }
 }
@@ -45,7 +38,13 @@ fn serve_early(
     noise: u32,
     out: &mut Output<impl Print>,
 ) -> io::Result<()> {
-    let [mut stretch, mut writer, mut readers] = noisy(lengths, noise);
+    let [stretch_length, writer_length, readers_length] = lengths;
+    let mut stretch = Table::new();
+    let mut writer = Table::new();
+    let mut readers = Table::new();
+    make_noisy(&mut stretch, stretch_length, noise);
+    make_noisy(&mut writer, writer_length, noise);
+    make_noisy(&mut readers, readers_length, noise);
     let answer = early::find(file, stretch.row_mut(), writer.row_mut(), readers.row_mut());
     tell(answer, &[stretch.row(), writer.row(), readers.row()], out)
 }
@@ -57,7 +56,15 @@ fn serve_late(
     noise: u32,
     out: &mut Output<impl Print>,
 ) -> io::Result<()> {
-    let [mut stretch, mut writer, mut version, mut log] = noisy(lengths, noise);
+    let [stretch_length, writer_length, version_length, log_length] = lengths;
+    let mut stretch = Table::new();
+    let mut writer = Table::new();
+    let mut version = Table::new();
+    let mut log = Table::new();
+    make_noisy(&mut stretch, stretch_length, noise);
+    make_noisy(&mut writer, writer_length, noise);
+    make_noisy(&mut version, version_length, noise);
+    make_noisy(&mut log, log_length, noise);
     let answer = late::find(
         file,
         stretch.row_mut(),

@@ -9,18 +9,23 @@ pub struct Lent<T, const N: usize> {
 }
 
 impl<T: Copy + Default, const N: usize> Lent<T, N> {
-    // A row of so many items, and never more than N; item i is item(i).
-    pub fn made<F: Fn(u32) -> T>(len: u32, item: F) -> Lent<T, N>
+    // A row of no items.
+    pub fn new() -> Lent<T, N> {
+        Lent {
+            items: [T::default(); N],
+            len: 0,
+        }
+    }
+
+    // Becomes a row of so many items, and never more than N; item i is item(i). It is filled where it stands, since to move it takes longer.
+    pub fn fill<F: Fn(u32) -> T>(&mut self, len: u32, item: F)
         requires { (i : ℕ) → i < len → F.pre item i }
     {
-        let mut items = [T::default(); N];
+        let items = &mut self.items;
         for (i, place) in (0..len).zip(items.iter_mut()) {
             *place = item(i);
         }
-        Lent {
-            items,
-            len: N.min(len as usize),
-        }
+        self.len = N.min(len as usize);
     }
 
     pub fn row(&self) -> &[T] {

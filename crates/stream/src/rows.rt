@@ -16,8 +16,8 @@ use writing::{Events, Rows};
 type Buffer = Lent<u8, 70_000>;
 
 // A buffer of this length, whose byte i is (noise + i) % 251; the finders' tables hold another noise.
-fn noisy(len: u32, noise: u32) -> Buffer {
-    Buffer::made(len, |i| ((noise % 251 + i % 251) % 251) as u8)
+fn make_noisy(buffer: &mut Buffer, len: u32, noise: u32) {
+    buffer.fill(len, |i| ((noise % 251 + i % 251) % 251) as u8);
 }
 
 // Five rows of these lengths, one after another; none where there are too few words.
@@ -80,17 +80,26 @@ struct Back {
 }
 
 impl Back {
-    fn read(file: &[u8], counts: Counts) -> Back
+    fn new() -> Back {
+        Back {
+            worker_labels: Lent::new(),
+            field_labels: Lent::new(),
+            kinds: Lent::new(),
+            workers: Lent::new(),
+            fields: Lent::new(),
+        }
+    }
+
+    fn read(&mut self, file: &[u8], counts: Counts)
         requires { Accepted file.now counts }
     {
         let entry = |n| entry_of(recording::event_at(file, counts, n));
-        Back {
-            worker_labels: Lent::made(counts.workers, |i| recording::worker_label(file, Worker(i))),
-            field_labels: Lent::made(counts.fields, |i| recording::field_label(file, Field(i))),
-            kinds: Lent::made(counts.events, |n| entry(n).kind),
-            workers: Lent::made(counts.events, |n| entry(n).worker),
-            fields: Lent::made(counts.events, |n| entry(n).field),
-        }
+        self.worker_labels.fill(counts.workers, |i| recording::worker_label(file, Worker(i)));
+        self.field_labels
+            .fill(counts.fields, |i| recording::field_label(file, Field(i)));
+        self.kinds.fill(counts.events, |n| entry(n).kind);
+        self.workers.fill(counts.events, |n| entry(n).worker);
+        self.fields.fill(counts.events, |n| entry(n).field);
     }
 
     fn rows(&self) -> Rows<'_> {
@@ -117,39 +126,52 @@ fn tell_rows(counts: Counts, rows: Rows<'_>, out: &mut Output<impl Print>) -> io
     out.send()
 }
 
-// What was written is read back, and written again in this buffer.
-fn tell_file(file: &[u8], buffer: &mut [u8], out: &mut Output<impl Print>) -> io::Result<()> {
+// What was written is read back, and written again in a second buffer of this length and noise.
+fn tell_file(file: &[u8], len: u32, noise: u32, out: &mut Output<impl Print>) -> io::Result<()> {
     match recording::check(file) {
         Err(r) => {
             out.numbers(&[0, r.reason.number(), low(r.place), 0])?;
             out.send()
         }
         Ok(counts) => {
-            let back = Back::read(file, counts);
+            let mut back = Back::new();
+            back.read(file, counts);
             tell_rows(counts, back.rows(), out)?;
-            tell_written(back.rows(), buffer, out)?;
+            let mut buffer = Buffer::new();
+            make_noisy(&mut buffer, len, noise);
+            tell_written(back.rows(), buffer.row_mut(), out)?;
             Ok(())
         }
     }
 }
 
-// The response to the rows, by way of these buffers.
+// The response to the rows, by way of two buffers of these lengths.
 fn respond(
     rows: Rows<'_>,
-    first: &mut [u8],
-    second: &mut [u8],
+    lengths: [u32; 2],
+    noise: u32,
     out: &mut Output<impl Print>,
 ) -> io::Result<()> {
+    let [first_length, second_length] = lengths;
+    // The greatest noise, so that there is one above it for the second buffer.
+    let noise = noise.min(70_000);
+    let mut buffer = Buffer::new();
+    make_noisy(&mut buffer, first_length, noise);
+    let first = buffer.row_mut();
     let Some(n) = tell_written(rows, first, out)? else {
         return Ok(());
     };
     let file = first.get(..n).ok_or(ErrorKind::InvalidData)?;
-    tell_file(file, second, out)
+    tell_file(file, second_length, noise + 125, out)
 }
 
-// Answers a request, of which the lengths of its five rows come next, those of two buffers, and the rows: at most 66,000 numbers.
+// The longest rows of a request, all five together.
+pub const MOST: usize = 66_000;
+
+// Answers a request, of which the lengths of its five rows come next, those of two buffers, and the rows, which come to stand in these words.
 pub fn serve(
     noise: u32,
+    words: &mut [u32; MOST],
     input: &mut Input<impl Read>,
     out: &mut Output<impl Print>,
 ) -> io::Result<()> {
@@ -160,13 +182,8 @@ pub fn serve(
     let total = lengths
         .iter()
         .fold(0, |sum: usize, len| sum.saturating_add(*len as usize));
-    let mut words = [0; 66_000];
     let words = words.get_mut(..total).ok_or(ErrorKind::InvalidInput)?;
     input.numbers(words)?;
     let rows = cut(words, lengths).ok_or(ErrorKind::InvalidInput)?;
-    // The greatest noise, so that there is one above it for the second buffer.
-    let noise = noise.min(70_000);
-    let mut first = noisy(buffers[0], noise);
-    let mut second = noisy(buffers[1], noise + 125);
-    respond(rows, first.row_mut(), second.row_mut(), out)
+    respond(rows, buffers, noise, out)
 }

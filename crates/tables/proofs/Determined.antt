@@ -26,7 +26,7 @@ sort_back WriteAfterWrite = refl
 sort_back WriteAfterRead = refl
 sort_back ReadAfterWrite = refl
 
-one_sort : (s t : Sort) → sort_number s ≡ sort_number t → s ≡ t
+pub one_sort : (s t : Sort) → sort_number s ≡ sort_number t → s ≡ t
 one_sort s t e = sym (sort_back s) ∙ ap (λ (n : ℕ). sort_numbered n) e ∙ sort_back t
 
 abbrev early_reason : ℕ → Reason → Reason
@@ -61,7 +61,7 @@ reason_back ExtraBytes = refl
 reason_back ShortTable = refl
 reason_back ShortBuffer = refl
 
-one_reason : (r s : Reason) → number_of r ≡ number_of s → r ≡ s
+pub one_reason : (r s : Reason) → number_of r ≡ number_of s → r ≡ s
 one_reason r s e = sym (reason_back r) ∙ ap (λ (n : ℕ). reason_numbered n) e ∙ reason_back s
 
 one_worker : (w u : Worker) → w.0 ≡ u.0 → w ≡ u
@@ -73,11 +73,11 @@ one_field f g q = let made : ℕ → Field = λ n. record { 0 = n } in ap made q
 one_report : (r t : Report) → report_of r ≡ report_of t → r ≡ t
 one_report r t e =
     let n : r.event ≡ t.event = cc in
-    let s = one_sort r.sort t.sort (cc) in
+    let s : r.sort ≡ t.sort = cc in
     let w = one_worker r.worker t.worker (cc) in
     let u = one_worker r.other t.other (cc) in
     let f = one_field r.field t.field (cc) in
-    let made : ℕ → Sort → Worker → Worker → Field → Report = λ n s w u f. record { event = n; sort = s; worker = w; other = u; field = f } in
+    let made : ℕ → ℕ → Worker → Worker → Field → Report = λ n s w u f. record { event = n; sort = s; worker = w; other = u; field = f } in
     let k : made r.event r.sort r.worker r.other r.field ≡ made t.event t.sort t.worker t.other t.field = cc in
     k
 
@@ -87,7 +87,7 @@ one_found (Some w) None e = cc
 one_found None (Some u) e = cc
 one_found None None e = refl
 
-one_refusal : (r s : Refusal) → number_of r.reason ≡ number_of s.reason → r.place ≡ s.place → r ≡ s
+pub one_refusal : (r s : Refusal) → number_of r.reason ≡ number_of s.reason → r.place ≡ s.place → r ≡ s
 one_refusal r s n p =
     let reason = one_reason r.reason s.reason n in
     let made : Reason → ℕ → Refusal = λ x p. record { reason = x; place = p } in
@@ -96,11 +96,11 @@ one_refusal r s n p =
 
 pub one_answer : (a b : Result (Unit {0}) Objection) → said_by a ≡ said_by b → a ≡ b
 one_answer (Ok u) (Ok v) e = refl
-one_answer (Ok u) (Err (Refused s)) e = cc
+one_answer (Ok u) (Err (Refused m q)) e = cc
 one_answer (Ok u) (Err (Reported t)) e = cc
-one_answer (Err (Refused r)) (Ok v) e = cc
-one_answer (Err (Refused r)) (Err (Refused s)) e = let k = one_refusal r s (cc) (cc) in cc
-one_answer (Err (Refused r)) (Err (Reported t)) e = cc
+one_answer (Err (Refused n p)) (Ok v) e = cc
+one_answer (Err (Refused n p)) (Err (Refused m q)) e = cc
+one_answer (Err (Refused n p)) (Err (Reported t)) e = cc
 one_answer (Err (Reported r)) (Ok v) e = cc
-one_answer (Err (Reported r)) (Err (Refused s)) e = cc
+one_answer (Err (Reported r)) (Err (Refused m q)) e = cc
 one_answer (Err (Reported r)) (Err (Reported t)) e = let k = one_report r t (cc) in cc

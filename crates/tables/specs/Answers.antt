@@ -3,7 +3,6 @@ use Rattle.std.specs.Prelude.{ℕ, Option, Some, None, Result, Ok, Err}
 use Rattle.events.specs.Search.{Found, at, none}
 use Rattle.events.specs.Verdicts.{accepted, reported}
 use Rattle.events.specs.Verdicts as papers
-use Rattle.recording.specs.Refusals.{number_of}
 use Rattle.sorts.specs.declared.Worker.{Worker}
 use Rattle.tables.specs.declared.Sort.{Sort}
 use Rattle.tables.specs.declared.Sort.TheVariants.{WriteAfterWrite, WriteAfterRead, ReadAfterWrite}
@@ -22,7 +21,7 @@ sort_number ReadAfterWrite = 3
 
 -- event, sort, worker, other worker, field
 abbrev pub report_of : Report → papers.Verdict
-report_of r = reported r.event (sort_number r.sort) r.worker.0 r.other.0 r.field.0
+report_of r = reported r.event r.sort r.worker.0 r.other.0 r.field.0
 
 abbrev pub verdict_of : Result (Unit {0}) Report → papers.Verdict
 verdict_of (Ok _) = accepted
@@ -35,5 +34,5 @@ pub data Said : Type 0 where
 
 abbrev pub said_by : Result (Unit {0}) Objection → Said
 said_by (Ok _) = judged accepted
-said_by (Err (Refused r)) = refused (number_of r.reason) r.place
+said_by (Err (Refused number place)) = refused number place
 said_by (Err (Reported r)) = judged (report_of r)

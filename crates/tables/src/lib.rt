@@ -49,11 +49,11 @@ impl Sort {
     }
 }
 
-// A clash: its event and sort, the worker that made the access, the other worker, and the field.
+// A clash: its event, document 01's number of its sort, the worker that made the access, the other worker, and the field.
 #[derive(Clone, Copy, Debug, PartialEq, Eq)]
 pub struct Report {
     pub event: u32,
-    pub sort: Sort,
+    pub sort: u32,
     pub worker: Worker,
     // Where nobody is known: `Worker::NOT_RECORDED`.
     pub other: Worker,
@@ -63,20 +63,22 @@ pub struct Report {
 // What is said of a recording that is well-formed: nothing, or its first clash.
 pub type Verdict = Result<(), Report>;
 
-// Why a file is not accepted.
+// Why a file is not accepted: document 01's number of the refusal and its place, or the clash. What prints or hands on an answer takes any
+// numbers, so they are numbers here; who refuses or reports names a `Reason` or a `Sort`.
 #[derive(Clone, Copy, Debug, PartialEq, Eq)]
 pub enum Objection {
-    Refused(Refusal),
+    Refused(u32, usize),
     Reported(Report),
 }
 
 impl From<Refusal> for Objection {
+    ghost use Rattle.recording.specs.Refusals.{number_of};
     ghost use Rattle.tables.specs.declared.Objection.TheVariants.{Refused};
 
-    ghost from_gives = { λ r o. o ≡ Refused r };
+    ghost from_gives = { λ r o. o ≡ Refused (number_of r.reason) r.place };
 
     fn from(r: Refusal) -> Objection {
-        Objection::Refused(r)
+        Objection::Refused(r.reason.number(), r.place)
     }
 }
 
@@ -109,7 +111,7 @@ pub fn clash(event: u32, sort: Sort, worker: Worker, found: Option<Worker>, fiel
         None => Ok(()),
         Some(other) => Err(Report {
             event,
-            sort,
+            sort: sort.number(),
             worker,
             other,
             field,

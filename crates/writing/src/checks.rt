@@ -43,6 +43,10 @@ fn label_section(row: &[u32], at: usize, rule: LabelRule) -> Result<(), Refusal>
     requires { at ≤ 1000 }
     ensures { result ≡ row_answer row.now at rule.limit rule.range rule.order }
 {
+    // A row with more labels is refused for that, and not read through first.
+    if (rule.limit as usize) < row.len() {
+        return Err(rule.range.at(at));
+    }
     let end = at + 2 + 2 * fitting_labels(row);
     items::label_section(&Labels { row }, end, at, row.len(), rule)
 }

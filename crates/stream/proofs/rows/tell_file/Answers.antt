@@ -3,5 +3,5 @@ use Rattle.std.proofs.Common.{rules}
 use Rattle.recording.proofs.Acceptance.{fine_accepted}
 use Rattle.stream.proofs.rows.tell_file.Goals as goal
 
-pub read-back-requires : goal.read-back-requires
-read-back-requires g c = search (rules, fine_accepted)
+pub read-requires : goal.read-requires
+read-requires g c = search (rules, fine_accepted)

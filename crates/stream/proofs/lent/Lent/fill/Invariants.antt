@@ -1,6 +1,6 @@
--- The range that `made` walks ends at the row's length, so `item` is called for places in the row alone.
+-- The range that `fill` walks ends at the row's length, so `item` is called for places in the row alone.
 use Rattle.std.proofs.Common.{◌≡◌}
-use Rattle.stream.proofs.lent.Lent.made.Given as goal
+use Rattle.stream.proofs.lent.Lent.fill.Given as goal
 
 abbrev pub invariant-loop-i : goal.invariant-loop-i
 invariant-loop-i g l =
