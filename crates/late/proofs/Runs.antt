@@ -184,5 +184,5 @@ module _ (file : List ℕ) (counts : Counts) (t₀ : Tables) (ready : Ready file
               so_far = later;
               shows =
                   rw history
-                  (step_passed t₀ t few fit now inside run.shows run.so_far.calm n event event_inside accepted t' (stepped accepted t' step) refl (rw history at later.calm));
+                  (step_passed t₀ t few fit now inside run.shows n event event_inside accepted t' (stepped accepted t' step) refl (rw history at later.calm));
             }

@@ -207,7 +207,11 @@ module _ (t₀ t : Tables) (few : t₀.workers ≤ 16) (fit : t₀.plain ≤ 512
         log = rw (new.log, shows.lent.plain) w.log;
       }
 
-  -- A step says what the late look says. If that is a report, its tables show h still; else they show the longer history.
+  -- A step says what the late look says. If that is no report, its tables show the longer history; else they show h.
+  pub step_passed : (n : ℕ) (e : List Act) → ActsWithin t₀.workers t₀.plain e → (v : Verdict) (t' : Tables) → Stepped n e v t t' → v ≡ accepted
+      → No OnWritten (entered h e) → Shows (entered h e) t₀ t'
+  step_passed n e acts v t' stepped q after = shows_after t' e acts after (rw q at stepped.entered)
+
   pub step_stopped : (n : ℕ) (e : List Act) (v : Verdict) (t' : Tables) → Stepped n e v t t' → (m s w u f : ℕ) → v ≡ reported m s w u f → Shows h t₀ t'
   unfolding stretch_after writer_after version_after log_after
   step_stopped n e v t' stepped m s w u f q =
@@ -223,9 +227,6 @@ module _ (t₀ t : Tables) (few : t₀.workers ≤ 16) (fit : t₀.plain ≤ 512
   module _ (calm : No OnWritten h) (n : ℕ) (e : List Act) (acts : ActsWithin t₀.workers t₀.plain e) (v : Verdict) (t' : Tables) (stepped : Stepped n e v t t') where
     pub step_says : v ≡ first_of (late_look t₀.plain h n) e
     step_says = stepped.answer ∙ meets_shown calm n e acts
-
-    pub step_passed : v ≡ accepted → No OnWritten (entered h e) → Shows (entered h e) t₀ t'
-    step_passed q after = shows_after t' e acts after (rw q at stepped.entered)
 
 -- each act raises a version by one at most
 version_next : (a : Act) (h : History) (f : ℕ) → version_word (a ∷ h) f ≤ version_word h f + 1
